@@ -1,0 +1,195 @@
+/* The program of document 01: a frame a line in, an answer a line out. */
+#include "jobs.h"
+#include "station.h"
+#include "wire.h"
+
+enum {
+    QUEUE_ROOM = 8,
+    LINE_MAX_CHARS = 80,
+    FRAME_WORDS = 7,
+    ANSWER_CHARS = 33,
+    CHUNK = 1 << 16
+};
+
+enum code {
+    OPEN = 1, UNIT, RESULT, STOP, FIND, TICK, TAKE, OPEN_TABLE, CODES
+};
+
+struct frame {
+    uint32_t code, count;
+    uint32_t words[FRAME_WORDS];
+};
+
+struct recorder {
+    struct station station;
+    uint32_t queue[QUEUE_ROOM * 3];
+    int open;
+};
+
+static const uint8_t words_of[CODES] = { 0, 7, 1, 1, 0, 0, 0, 0, 5 };
+
+static struct recorder recorder;
+static char input[LINE_MAX_CHARS + CHUNK];
+static char output[(size_t)ANSWER_CHARS * CHUNK];
+
+/* The seed of a table open may be left off; it is then 0. */
+static int count_fits(uint32_t code, size_t count)
+{
+    return count == words_of[code] || (code == OPEN_TABLE && count == 4);
+}
+
+static int read_frame(const char *line, size_t length, struct frame *f)
+{
+    if (length < 2 || (length - 2) % 9 != 0 || !get_byte(line, &f->code))
+        return 0;
+    f->count = (uint32_t)((length - 2) / 9);
+    if (f->code < OPEN || f->code >= CODES || !count_fits(f->code, f->count))
+        return 0;
+    line += 2;
+    for (uint32_t j = 0; j < f->count; j++, line += 9)
+        if (line[0] != ' ' || !get_word(line + 1, &f->words[j]))
+            return 0;
+    return 1;
+}
+
+static struct memory queue_of(struct recorder *r)
+{
+    return (struct memory){ r->queue, QUEUE_ROOM * 3 };
+}
+
+static struct answer open_plan(struct recorder *r, const struct plan *plan,
+                               uint32_t seed)
+{
+    struct answer a = station_open(&r->station, queue_of(r), plan, seed);
+
+    r->open = a.refusal == DONE;
+    return a;
+}
+
+static struct answer open_given(struct recorder *r, const uint32_t *w)
+{
+    struct plan plan = { w[0], w[1], w[2], w[3], w[4], w[5] };
+
+    return open_plan(r, &plan, w[6]);
+}
+
+static struct answer open_table(struct recorder *r, const struct frame *f)
+{
+    const uint32_t *w = f->words;
+    struct plan plan;
+
+    if (!table_plan(w[0], w[1], w[2], w[3], &plan))
+        return (struct answer){ .refusal = BAD_PLAN };
+    return open_plan(r, &plan, f->count == 5 ? w[4] : 0);
+}
+
+static struct answer call(struct recorder *r, const struct frame *f)
+{
+    struct station *st = &r->station;
+    struct memory mem = queue_of(r);
+
+    switch (f->code) {
+    case UNIT:   return station_unit(st, mem, f->words[0]);
+    case RESULT: return station_result(st, mem, f->words[0]);
+    case STOP:   return station_interrupt(st, mem);
+    case FIND:   return station_check_find(st, mem);
+    case TICK:   return station_tick(st, mem);
+    default:     return station_take(st, mem);
+    }
+}
+
+static struct answer answer_frame(struct recorder *r, const struct frame *f)
+{
+    int opens = f->code == OPEN || f->code == OPEN_TABLE;
+
+    if (opens && r->open)
+        return (struct answer){ .refusal = ILL_FORMED };
+    if (!opens && !r->open)
+        return (struct answer){ .refusal = BAD_RECORD };
+    if (f->code == OPEN)
+        return open_given(r, f->words);
+    if (f->code == OPEN_TABLE)
+        return open_table(r, f);
+    return call(r, f);
+}
+
+static char *print_answer(char *to, const struct answer *a)
+{
+    to = put_byte(to, a->refusal);
+    *to++ = ' ';
+    to = put_byte(to, a->kind);
+    *to++ = ' ';
+    to = put_word(to, a->number);
+    *to++ = ' ';
+    to = put_word(to, a->unit);
+    *to++ = ' ';
+    to = put_word(to, a->value);
+    *to++ = '\n';
+    return to;
+}
+
+static char *print_ill_formed(char *to)
+{
+    struct answer a = { .refusal = ILL_FORMED };
+
+    return print_answer(to, &a);
+}
+
+static char *answer_line(const char *line, size_t length, char *to)
+{
+    struct frame f;
+    struct answer a;
+
+    if (length > LINE_MAX_CHARS || !read_frame(line, length, &f))
+        return print_ill_formed(to);
+    a = answer_frame(&recorder, &f);
+    return print_answer(to, &a);
+}
+
+/* Bytes of the unfinished line: kept at the front, or lost when too many. */
+struct tail {
+    size_t kept;
+    int lost;
+};
+
+/* Answers every whole line of the first `filled` bytes of the input. */
+static char *answer_chunk(struct tail *tail, size_t filled, char *to)
+{
+    const char *line = input, *end = input + filled, *stop;
+
+    while ((stop = memchr(line, '\n', (size_t)(end - line))) != NULL) {
+        if (tail->lost)
+            to = print_ill_formed(to);
+        else
+            to = answer_line(line, (size_t)(stop - line), to);
+        tail->lost = 0;
+        line = stop + 1;
+    }
+    tail->kept = (size_t)(end - line);
+    if (tail->lost || tail->kept > LINE_MAX_CHARS) {
+        tail->lost = 1;
+        tail->kept = 0;
+    }
+    memmove(input, line, tail->kept);
+    return to;
+}
+
+int job_frames(void)
+{
+    struct tail tail = { 0, 0 };
+    long got;
+
+    while ((got = read_some(input + tail.kept, CHUNK)) > 0) {
+        char *to = answer_chunk(&tail, tail.kept + (size_t)got, output);
+
+        if (!write_all(output, (size_t)(to - output)))
+            return 1;
+    }
+    if (tail.lost || tail.kept > 0) {
+        char *to = print_ill_formed(output);
+
+        if (!write_all(output, (size_t)(to - output)))
+            return 1;
+    }
+    return got < 0;
+}
