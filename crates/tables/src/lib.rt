@@ -72,7 +72,9 @@ fn plan_v(letter: u32, aql: u32) -> Plan
     requires { ⌜ (1 ≤ letter) × (letter ≤ 11) × (column aql < 8) ⌝ }
     ensures { λ r. ⌜ r ≡ planV letter aql ⌝ }
 {
-    let cell = letter_row(letter) * 8 + column(aql);
+    let by_letter = letter_row(letter);
+    let by_aql = column(aql);
+    let cell = by_letter * 8 + by_aql;
     Plan {
         kind: 4,
         n: FREQUENCIES[(letter - 1) as usize],
@@ -88,11 +90,12 @@ fn plan_iii_a_4(letter: u32, period: u32) -> Plan
     requires { ⌜ (1 ≤ letter) × (letter ≤ 8) ⌝ }
     ensures { λ r. ⌜ r ≡ planIIIA4 letter period ⌝ }
 {
-    let at = (letter - 1) as usize;
-    let cell = row(period) * 8 + at;
+    let by_letter = (letter - 1) as usize;
+    let by_period = row(period);
+    let cell = by_period * 8 + by_letter;
     Plan {
         kind: 3,
-        n: FREQUENCIES[at],
+        n: FREQUENCIES[by_letter],
         i: TABLE_III_A_4[cell],
         s: 0,
         x: 0,

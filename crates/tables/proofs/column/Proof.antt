@@ -21,11 +21,11 @@ loop-holds c = (omega arith, starts (eqb (c .args .aql)) aqls)
 
 returns : tie.Need-returns Inv-loop μ-loop
 unfolding aqls
-returns c = (here (c .before .before .loop .inv .1) (omega arith) (eq-eqb _ _ (c .if1 .taken)), omega arith)
+returns c = (here (c .before .before .loop .inv .1) (omega arith) (search (needs, eq-eqb)), omega arith)
 
 loop-again : tie.Need-loop-again Inv-loop μ-loop
 unfolding aqls
-loop-again c = (omega arith, onward (c .before .before .loop .inv .1) (omega arith) (ne-eqb _ _ (c .if1 .left)))
+loop-again c = (omega arith, onward (c .before .before .loop .inv .1) (omega arith) (search (needs, ne-eqb)))
 
 returns-2 : tie.Need-returns-2 Inv-loop μ-loop
 unfolding aqls

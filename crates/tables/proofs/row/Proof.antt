@@ -3,6 +3,7 @@
 use Prim.Native.Nat.{_≤_, _-_}
 use native.Mathlib.Omega.{arith}
 use lib.Dec.{leb}
+use lib.ListN.{getD}
 use borrow.Author.Needs.{needs}
 use borrow.Author.Tests.{le-leb, lt-leb}
 use Rattle.rules.specs.Tables.{ends}
@@ -21,11 +22,11 @@ loop-holds c = (omega arith, starts (leb (c .args .period)) ends)
 
 returns : tie.Need-returns Inv-loop μ-loop
 unfolding ends
-returns c = (here (c .before .before .loop .inv .1) (omega arith) (le-leb _ _ (c .if1 .taken)), omega arith)
+returns c = (here (c .before .before .loop .inv .1) (omega arith) (le-leb _ (getD ends (c .before .before .loop .k) 0) (omega arith)), omega arith)
 
 loop-again : tie.Need-loop-again Inv-loop μ-loop
 unfolding ends
-loop-again c = (omega arith, onward (c .before .before .loop .inv .1) (omega arith) (lt-leb _ _ (c .if1 .left)))
+loop-again c = (omega arith, onward (c .before .before .loop .inv .1) (omega arith) (search (needs, lt-leb)))
 
 returns-2 : tie.Need-returns-2 Inv-loop μ-loop
 unfolding ends
