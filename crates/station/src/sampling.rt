@@ -84,12 +84,13 @@ fn good_t(p: Plan, unit: u32, m: Sampling) -> Moved
     }
     let row = m.row + 1;
     if row == p.i {
+        let level = m.level + 1;
         return Moved {
-            phase: start_sampling(m.level + 1),
+            phase: start_sampling(level),
             raised: Raised::One(Event {
                 kind: Kind::PhaseChange,
                 unit,
-                value: m.level + 2,
+                value: level + 1,
             }),
         };
     }
@@ -110,14 +111,14 @@ fn good_2(p: Plan, m: Sampling) -> Moved
     requires { ⌜ m .watched ≤ 10000 ⌝ }
     ensures { λ r. ⌜ r ≡ good2 p m ⌝ }
 {
-    if !m.watch {
-        return quiet(Phase::Sample(m));
+    if m.watch {
+        let watched = m.watched + 1;
+        if watched == p.i {
+            return quiet(with_counts(m.row, false, 0, m));
+        }
+        return quiet(with_counts(m.row, true, watched, m));
     }
-    let watched = m.watched + 1;
-    if watched == p.i {
-        return quiet(with_counts(m.row, false, 0, m));
-    }
-    quiet(with_counts(m.row, true, watched, m))
+    quiet(Phase::Sample(m))
 }
 
 pub fn sampled_good(p: Plan, unit: u32, m: Sampling) -> Moved

@@ -16,12 +16,12 @@ enum-told c = search needs
 -- src/checks.rt:39:1
 returns : tie.Need-returns
 unfolding nothingToFind
-returns c = rw (c .phase .given .1)
+returns c = rw (c .before .before .phase .given .1)
 
 -- src/checks.rt:39:1
 returns-2 : tie.Need-returns-2
 unfolding nothingToFind
-returns-2 c = rw (c .phase2 .given .1)
+returns-2 c = rw (c .enum-told .given .1)
 
 pub nothing-to-find-spec : {M : Type 1} → statement M
 nothing-to-find-spec = tie.close (tie.spec enum-known-phase enum-told returns returns-2)

@@ -14,11 +14,11 @@ enum-told-2 c = search needs
 
 -- src/screening.rt:40:1
 returns : tie.Need-returns
-returns c = rw (c .phase .given .1)
+returns c = rw (c .enum-told .given .1)
 
 -- src/screening.rt:40:1
 returns-2 : tie.Need-returns-2
-returns-2 c = rw (c .phase2 .given .1)
+returns-2 c = rw (c .enum-told2 .given .1)
 
 pub restart-raised-spec : {M : Type 1} → statement M
 restart-raised-spec = tie.close (tie.spec enum-told enum-told-2 returns returns-2)

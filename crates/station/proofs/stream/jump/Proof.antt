@@ -32,7 +32,7 @@ restart-raised-requires c κs = search needs
 -- src/stream.rt:76:9
 returns : tie.Need-returns
 unfolding jumped
-returns c = search (needs, lt-ltb, c .restart-raised .ensures, c .before .missed-tally .ensures)
+returns c = simp (lt-ltb _ _ (c .before .before .before .before .if1 .taken), c .restart-raised .ensures, c .before .missed-tally .ensures, c .before .before .start-screening .ensures)
 
 -- src/stream.rt:62:1
 returns-2 : tie.Need-returns-2

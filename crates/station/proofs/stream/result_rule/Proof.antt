@@ -1,3 +1,4 @@
+use Rattle.station.proofs.Laws.{is-countable}
 use borrow.Author.Needs.{needs}
 use Rattle.station.proofs.stream.result_rule.Statement.{statement}
 use Rattle.station.proofs.stream.result_rule.Tie as tie
@@ -8,7 +9,7 @@ use Rattle.station.proofs.stream.result_tally.Reads as result-tally-rea
 
 -- src/stream.rt:215:9
 result-phase-requires : tie.Need-result-phase-requires
-result-phase-requires c κs = ?
+result-phase-requires c κs = let s = c .before .before in is-countable _ _ (s .args .s .phase) (s .pre .0 .plan) (s .pre .0 .tally) (s .pre .1) (s .pre .0 .phase)
 
 -- src/stream.rt:221:20
 result-tally-requires : tie.Need-result-tally-requires

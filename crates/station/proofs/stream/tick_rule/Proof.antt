@@ -26,7 +26,7 @@ with-silence-requires-2 c κs = search needs
 -- src/stream.rt:290:1
 returns-2 : tie.Need-returns-2
 unfolding tickRule
-returns-2 c = simp (c .before .before .before .if1 .left, c .with-silence2 .ensures)
+returns-2 c = simp (c .before .before .if1 .left, c .with-silence2 .ensures)
 
 pub tick-rule-spec : {M : Type 1} → statement M
 tick-rule-spec =

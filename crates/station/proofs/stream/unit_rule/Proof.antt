@@ -1,3 +1,4 @@
+use Rattle.station.proofs.Laws.{jumped-fit}
 use borrow.Author.Needs.{needs}
 use Rattle.station.proofs.stream.unit_rule.Statement.{statement}
 use Rattle.station.proofs.stream.unit_rule.Tie as tie
@@ -12,7 +13,7 @@ jump-requires c κs = search needs
 
 -- src/stream.rt:159:5
 handle-requires : tie.Need-handle-requires
-handle-requires c κs = ?
+handle-requires c κs = let s = c .before in let j = jumped-fit _ _ _ (s .pre .0) in rw (c .jump .ensures) (s .pre .0 .plan, j .0, j .1)
 
 -- src/stream.rt:155:1
 returns : tie.Need-returns
