@@ -4,10 +4,7 @@ use Rattle.rules.specs.Calls.{noQueue}
 use borrow.Author.Needs.{needs}
 use Rattle.station.proofs.checks.no_queue.Statement.{statement}
 use Rattle.station.proofs.checks.no_queue.Tie as tie
-use Rattle.station.proofs.checks.no_queue.Reads as reads
-use Rattle.station.proofs.checks.no_queue.Lts as lts
 
--- src/checks.rt:21:1
 returns : tie.Need-returns
 unfolding noQueue _or_ roomInRange _and_
 returns c = search needs

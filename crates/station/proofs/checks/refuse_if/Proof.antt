@@ -2,15 +2,11 @@ use Rattle.rules.specs.Calls.{refuseIf}
 use borrow.Author.Needs.{needs}
 use Rattle.station.proofs.checks.refuse_if.Statement.{statement}
 use Rattle.station.proofs.checks.refuse_if.Tie as tie
-use Rattle.station.proofs.checks.refuse_if.Reads as reads
-use Rattle.station.proofs.checks.refuse_if.Lts as lts
 
--- src/checks.rt:16:9
 returns : tie.Need-returns
 unfolding refuseIf
 returns c = simp (c .if1 .taken)
 
--- src/checks.rt:12:1
 returns-2 : tie.Need-returns-2
 unfolding refuseIf
 returns-2 c = simp (c .if1 .left)

@@ -3,15 +3,11 @@ use Rattle.rules.specs.Sampling.{needAfterSampling}
 use borrow.Author.Needs.{needs}
 use Rattle.station.proofs.sampling.need_after_sampling.Statement.{statement}
 use Rattle.station.proofs.sampling.need_after_sampling.Tie as tie
-use Rattle.station.proofs.sampling.need_after_sampling.Reads as reads
-use Rattle.station.proofs.sampling.need_after_sampling.Lts as lts
 
--- src/sampling.rt:139:1
 returns : tie.Need-returns
 unfolding needAfterSampling _and_
 returns c = simp (c .if1 .taken)
 
--- src/sampling.rt:139:1
 returns-2 : tie.Need-returns-2
 unfolding needAfterSampling _and_
 returns-2 c = simp (c .if1 .left)

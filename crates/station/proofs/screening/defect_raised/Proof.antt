@@ -2,15 +2,11 @@ use Rattle.rules.specs.Screening.{defectRaised}
 use borrow.Author.Needs.{needs}
 use Rattle.station.proofs.screening.defect_raised.Statement.{statement}
 use Rattle.station.proofs.screening.defect_raised.Tie as tie
-use Rattle.station.proofs.screening.defect_raised.Reads as reads
-use Rattle.station.proofs.screening.defect_raised.Lts as lts
 
--- src/screening.rt:103:9
 returns : tie.Need-returns
 unfolding defectRaised
 returns c = simp (c .if1 .taken)
 
--- src/screening.rt:94:1
 returns-2 : tie.Need-returns-2
 unfolding defectRaised
 returns-2 c = simp (c .if1 .left)

@@ -3,10 +3,7 @@ use Rattle.rules.specs.Screening.{longScreening}
 use borrow.Author.Needs.{needs}
 use Rattle.station.proofs.screening.long_screening.Statement.{statement}
 use Rattle.station.proofs.screening.long_screening.Tie as tie
-use Rattle.station.proofs.screening.long_screening.Reads as reads
-use Rattle.station.proofs.screening.long_screening.Lts as lts
 
--- src/screening.rt:88:1
 returns : tie.Need-returns
 unfolding longScreening _and_
 returns c = search needs

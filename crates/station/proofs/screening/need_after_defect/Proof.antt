@@ -3,15 +3,11 @@ use Rattle.rules.specs.Screening.{needAfterDefect}
 use borrow.Author.Needs.{needs}
 use Rattle.station.proofs.screening.need_after_defect.Statement.{statement}
 use Rattle.station.proofs.screening.need_after_defect.Tie as tie
-use Rattle.station.proofs.screening.need_after_defect.Reads as reads
-use Rattle.station.proofs.screening.need_after_defect.Lts as lts
 
--- src/screening.rt:82:1
 returns : tie.Need-returns
 unfolding needAfterDefect
 returns c = search (needs, eq-eqb, ne-eqb)
 
--- src/screening.rt:82:1
 returns-2 : tie.Need-returns-2
 unfolding needAfterDefect
 returns-2 c = search (needs, eq-eqb, ne-eqb)
