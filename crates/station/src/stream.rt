@@ -25,7 +25,7 @@ ghost use mathlib.Core.Bool.{true, false};
 ghost use Prim.Native.Nat.{_+_, _≤_, _<_};
 ghost use Rattle.rules.specs.Stream.{freshStream, missedTally, jumped, arrived, arrivedTally, arrivedStream, handled, unitRule, resultPhase, resultTally, resultMoved, resultRule, withPhase, interruptRule, findRule, withSilence, tickRule};
 ghost use Rattle.rules.specs.Plan.{unitLimit};
-ghost use Rattle.rules.specs.Facts.{PlanFacts};
+ghost use Rattle.rules.proofs.Facts.{PlanFacts};
 ghost use Rattle.station.specs.Fit.{Findable, Countable, Placed, StreamFit};
 
 pub fn fresh_stream(p: Plan, seed: u32) -> Stream

@@ -1,4 +1,4 @@
-use Rattle.rules.specs.Facts.{block-high}
+use Rattle.rules.proofs.Facts.{block-high}
 use native.Mathlib.Omega.{arith}
 use borrow.Author.Needs.{needs}
 use Rattle.station.proofs.stream.arrive.Statement.{statement}
