@@ -1,0 +1,112 @@
+"""Finds, builds and runs the two programs; nothing else in tests/ or bench/ knows where they are.
+
+The recorder and the probe are built by `rt check`, for x86-64, and stand under target/bin. They run as the kit
+itself runs a program: under the kit's loader and C library, and on another processor under the kit's emulator.
+The second program is plain C, built for this machine by second/build.
+
+RECORDER_ROOT and SECOND_ROOT name other repositories to take the programs from.
+"""
+
+import os
+import platform
+import shutil
+import subprocess
+from functools import lru_cache
+from pathlib import Path
+
+ROOT = Path(__file__).resolve().parent.parent
+RECORDER_ROOT = Path(os.environ.get('RECORDER_ROOT', ROOT))
+SECOND_ROOT = Path(os.environ.get('SECOND_ROOT', ROOT))
+BUILD = ROOT / 'build'
+
+RECORDER, SECOND, SANITIZED = 'recorder', 'second', 'second-sanitize'
+NAMES = (RECORDER, SECOND, SANITIZED)
+MISTAKES = (1, 2, 3, 4)
+
+
+class Missing(Exception):
+    """A program that is not there, or that could not be built."""
+
+
+# ---- The kit's programs
+
+@lru_cache(maxsize=None)
+def kit():
+    """The kit's folder: `rt doc` names a page two folders below it."""
+    if shutil.which('rt') is None:
+        raise Missing('rt is not on the path: the kit runs what it built')
+    page = subprocess.run(['rt', 'doc'], capture_output=True, text=True, check=True).stdout.strip()
+    return Path(page).parent.parent
+
+
+def kit_here():
+    """What the kit has for this processor."""
+    return kit() / 'on' / platform.machine()
+
+
+def toolchain():
+    return kit_here() / 'toolchain'
+
+
+def emulator():
+    """The kit has one exactly where the processor is not x86-64."""
+    path = toolchain() / 'bin' / 'qemu-x86_64'
+    return path if os.access(path, os.X_OK) else None
+
+
+def under_kit(path):
+    """The words that run an x86-64 program that is linked with the kit's C library."""
+    library = toolchain() / 'lib'
+    start = [emulator()] if emulator() else []
+    return [str(word) for word in (*start, library / 'ld-linux-x86-64.so.2', '--library-path', library, path)]
+
+
+def kit_program(name):
+    path = RECORDER_ROOT / 'target' / 'bin' / name
+    if not path.is_file():
+        raise Missing(f'{name} is not built: `rt check {name}` writes target/bin/{name}')
+    return under_kit(path)
+
+
+def environment():
+    """The emulator takes orders from QEMU_ variables; a run must not hang on them."""
+    return {name: value for name, value in os.environ.items() if not name.startswith('QEMU_')}
+
+
+# ---- The second program
+
+@lru_cache(maxsize=None)
+def second_program(name):
+    """build/second, build/second-sanitize or build/second-mistake-N, built anew once for each run."""
+    script = SECOND_ROOT / 'second' / 'build'
+    if not script.is_file():
+        raise Missing('second/build is not there')
+    words = name.split('-')[1:]
+    built = subprocess.run([str(script), *words], capture_output=True, text=True)
+    path = SECOND_ROOT / 'build' / name
+    if built.returncode != 0 or not path.is_file():
+        raise Missing(f'second/build {" ".join(words)} failed: {built.stderr.strip()}')
+    return str(path)
+
+
+def mistaken(number):
+    return f'second-mistake-{number}'
+
+
+# ---- The two jobs
+
+def recorder_job(name):
+    """The words that start the job over frames of one of NAMES, or of a mistaken second program."""
+    return kit_program(name) if name == RECORDER else [second_program(name)]
+
+
+def probe_job(name):
+    return kit_program('probe') if name == RECORDER else [second_program(name), 'probe']
+
+
+def output(words, text, seconds=600):
+    """All that a program writes for all that it reads. A program that fails or hangs is an error."""
+    done = subprocess.run(words, input=text, capture_output=True, timeout=seconds, env=environment())
+    if done.returncode != 0:
+        raise RuntimeError(f'{words[-1]} ended with {done.returncode}: {done.stderr.decode(errors="replace")[:2000]}')
+    return done.stdout
