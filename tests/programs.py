@@ -28,6 +28,10 @@ class Missing(Exception):
     """A program that is not there, or that could not be built."""
 
 
+class Ended(Exception):
+    """A program that ended with a fault, or did not end in time."""
+
+
 # ---- The kit's programs
 
 @lru_cache(maxsize=None)
@@ -104,9 +108,12 @@ def probe_job(name):
     return kit_program('probe') if name == RECORDER else [second_program(name), 'probe']
 
 
-def output(words, text, seconds=600):
-    """All that a program writes for all that it reads. A program that fails or hangs is an error."""
-    done = subprocess.run(words, input=text, capture_output=True, timeout=seconds, env=environment())
+def output(words, text, seconds=300):
+    """All that a program writes for all that it reads."""
+    try:
+        done = subprocess.run(words, input=text, capture_output=True, timeout=seconds, env=environment())
+    except subprocess.TimeoutExpired:
+        raise Ended(f'{" ".join(words)} did not end in {seconds} s')
     if done.returncode != 0:
-        raise RuntimeError(f'{words[-1]} ended with {done.returncode}: {done.stderr.decode(errors="replace")[:2000]}')
+        raise Ended(f'{" ".join(words)} ended with {done.returncode}: {done.stderr.decode(errors="replace")[:2000]}')
     return done.stdout

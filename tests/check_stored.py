@@ -1,0 +1,32 @@
+"""Stored sessions: the model, the recorder and the second program against each sessions/NAME.out."""
+
+import model
+import programs
+import stored
+from programs import ROOT
+
+FOLDER = ROOT / 'sessions'
+
+
+def check(report, pair, options):
+    names = sorted(path.stem for path in FOLDER.glob('*.in'))
+    jobs = {name: programs.recorder_job(name) for name in pair}
+    frames = 0
+    for name in names:
+        text = (FOLDER / f'{name}.in').read_bytes()
+        frames += text.count(b'\n')
+        outputs = {'stored': (FOLDER / f'{name}.out').read_bytes(), 'model': model.run(text)}
+        outputs.update((program, programs.output(words, text)) for program, words in jobs.items())
+        report.agreed(name, text, outputs)
+    as_described(report, names)
+    return f'{len(names)} sessions, {frames:,} frames'
+
+
+def as_described(report, names):
+    """The words in tests/stored.py, the files and the list of them tell the same sessions."""
+    listed = (FOLDER / 'README.md').read_text()
+    for name, write in stored.SESSIONS.items():
+        same = name in names and (FOLDER / f'{name}.in').read_bytes() == stored.text_of(write)
+        report.check(same, f'sessions/{name}.in is not what tests/stored.py describes: run tests/record')
+    for name in names:
+        report.check(f'| {name} |' in listed, f'sessions/README.md has no line on {name}')
