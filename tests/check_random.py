@@ -1,11 +1,10 @@
 """Seeded random sessions: the model, the recorder and the second program, byte for byte."""
 
-import os
 from collections import Counter
-from concurrent.futures import ProcessPoolExecutor
 
 import programs
 from drive import Driver
+from parallel import in_parallel
 from reached import GOALS
 
 PORTION = 20
@@ -15,13 +14,12 @@ def check(report, pair, options):
     jobs = {name: programs.recorder_job(name) for name in pair}
     reached, frames = Counter(), 0
     portions = [(jobs, options.seed, start, min(PORTION, options.count - start)) for start in range(0, options.count, PORTION)]
-    with ProcessPoolExecutor(os.cpu_count()) as pool:
-        for sent, counts, agreed, differing in pool.map(run_portion, portions):
-            frames += sent
-            reached.update(counts)
-            report.passed += agreed
-            for name, text, outputs in differing:
-                report.agreed(name, text, outputs)
+    for sent, counts, agreed, differing in in_parallel(run_portion, portions):
+        frames += sent
+        reached.update(counts)
+        report.passed += agreed
+        for name, text, outputs in differing:
+            report.agreed(name, text, outputs)
     report.reached(reached, GOALS)
     return f'{options.count:,} sessions, {frames:,} frames' + listing(reached)
 
@@ -56,6 +54,4 @@ def run_portion(portion):
 def run_session(jobs, name):
     driver = Driver(name)
     text = driver.drive()
-    outputs = {'model': driver.expected_for(text)}
-    outputs.update((program, programs.output(words, text)) for program, words in jobs.items())
-    return driver, text, outputs
+    return driver, text, {'model': driver.expected_for(text), **programs.outputs(jobs, text)}

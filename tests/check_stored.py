@@ -15,10 +15,11 @@ def check(report, pair, options):
     for name in names:
         text = (FOLDER / f'{name}.in').read_bytes()
         frames += text.count(b'\n')
-        outputs = {'stored': (FOLDER / f'{name}.out').read_bytes(), 'model': model.run(text)}
-        outputs.update((program, programs.output(words, text)) for program, words in jobs.items())
-        report.agreed(name, text, outputs)
+        stored_answers = (FOLDER / f'{name}.out').read_bytes()
+        report.agreed(name, text, {'stored': stored_answers, 'model': model.run(text), **programs.outputs(jobs, text)})
     as_described(report, names)
+    if programs.RECORDER in pair:
+        by_hand(report)
     return f'{len(names)} sessions, {frames:,} frames'
 
 
@@ -30,3 +31,11 @@ def as_described(report, names):
         report.check(same, f'sessions/{name}.in is not what tests/stored.py describes: run tests/record')
     for name in names:
         report.check(f'| {name} |' in listed, f'sessions/README.md has no line on {name}')
+
+
+def by_hand(report):
+    """bin/run, which is what a reader starts, gives the example; a program that is not there is said to be missing."""
+    command = str(ROOT / 'bin' / 'run')
+    text, answers = ((FOLDER / f'example.{part}').read_bytes() for part in ('in', 'out'))
+    report.check(programs.output([command, programs.RECORDER], text) == answers, 'bin/run recorder does not give the example')
+    report.check(b'is not built' in programs.output([command, 'no-such-program'], b''), 'bin/run does not say that a program is missing')

@@ -13,9 +13,7 @@ def check(report, pair, options):
     sessions = [*table_v(), *table_iii_a_4()]
     for name, script in sessions:
         text = script.text()
-        outputs = {'model': script.expected()}
-        outputs.update((program, programs.output(words, text)) for program, words in jobs.items())
-        report.agreed(name, text, outputs)
+        report.agreed(name, text, {'model': script.expected(), **programs.outputs(jobs, text)})
     absent(report, jobs, options)
     return f'{len(sessions)} entries of the two tables, each shown to have its i, n and S or N; {ABSENT:,} entries that are not there'
 
@@ -88,6 +86,4 @@ def absent(report, jobs, options):
         entry = [chosen.choice((3, 4, chosen.choice(near))), *(chosen.choice(near) for _ in range(3))]
         if model.table_plan(*entry) is None:
             script.table(*entry, seed=chosen.choice((None, 0, 7)))
-    outputs = {'model': script.expected()}
-    outputs.update((program, programs.output(words, script.text())) for program, words in jobs.items())
-    report.agreed('table-absent-entries', script.text(), outputs)
+    report.agreed('table-absent-entries', script.text(), {'model': script.expected(), **programs.outputs(jobs, script.text())})

@@ -1,0 +1,131 @@
+"""Single calls through the probe: the model, the recorder's probe and the second program's, line for line."""
+
+import zlib
+from collections import Counter
+from itertools import combinations
+
+import model
+import probes
+import programs
+from model import FIELDS
+from parallel import in_parallel
+from probes import CALLS, CHECKS, MOST_WORDS, Probes
+from report import save
+
+BATCH_BYTES = 8_000_000
+NAMES = ('refusal', 'kind', 'number', 'unit', 'value', *FIELDS)
+# Any generator state and either way of hearing are sound, and another C is refused 1: damage there breaks no rule.
+NEVER_UNSOUND = ('C', 's', 'heard')
+
+
+def check(report, pair, options):
+    jobs = {name: programs.probe_job(name) for name in pair}
+    tally = Counter()
+    for counts, agreed, said in in_parallel(run_task, [(jobs, *task) for task in tasks(options)]):
+        tally.update(counts)
+        report.passed += agreed
+        for what in said:
+            report.check(False, what)
+    report.reached(tally, goals())
+    lengths = sum(tally[f'length {length}'] > 0 for length in range(MOST_WORDS + 1))
+    report.check(lengths == MOST_WORDS + 1, f'memories of {lengths:,} lengths, not of every one to {MOST_WORDS:,} words')
+    return covered(tally)
+
+
+def tasks(options):
+    """What each process does: a seed, a kind of request, and how many or which. The numbers grow with --count."""
+    portions = max(1, options.count // 500)
+    for at in range(portions):
+        for kind, count in (('sound', 2_000), ('damaged', 2_000), ('chance', 500), ('opens', 500), ('stacked', 3_000), ('other_rooms', 250)):
+            yield f'{options.seed}-{at}', kind, count
+        yield f'{options.seed}-{at}', 'rooms', 1
+    for start in range(0, MOST_WORDS + 1, 400):
+        yield options.seed, 'lengths', range(start, min(start + 400, MOST_WORDS + 1))
+
+
+def run_task(task):
+    """Requests of one kind: what they tried, how many agreed, and where they did not."""
+    jobs, seed, kind, argument = task
+    tally, agreed, said = Counter(), 0, []
+    for batch in batches(getattr(Probes(f'{seed}-{kind}-{argument}'), kind)(argument)):
+        for what in compare(jobs, batch, tally):
+            agreed += not what
+            said += [what] if what else []
+    return tally, agreed, said
+
+
+def batches(stream):
+    """Lists of requests that fit a run of a program."""
+    batch, size = [], 0
+    for made in stream:
+        batch.append(made)
+        size += 9 * len(made.queue) + 400
+        if size > BATCH_BYTES:
+            yield batch
+            batch, size = [], 0
+    if batch:
+        yield batch
+
+
+def compare(jobs, batch, tally):
+    """For each request an empty text where all agree, else what differs."""
+    sent = [probes.written(made.words()) for made in batch]
+    answers = {'model': [probes.written(answered(made, tally)) for made in batch]}
+    for name, output in programs.outputs(jobs, b''.join(line + b'\n' for line in sent)).items():
+        answers[name] = output.split(b'\n')[:-1]
+        if len(answers[name]) != len(batch):
+            yield f'probe: {name} gave {len(answers[name]):,} answers to {len(batch):,} requests'
+    for made, *lines in zip(batch, *answers.values()):
+        yield '' if len(set(lines)) == 1 else difference(made, dict(zip(answers, lines)))
+
+
+def answered(made, tally):
+    """The model's answer; what it refused, and before which other checks that applied as well, is counted."""
+    answer = model.probe(made.words())
+    call, refusal = CALLS[made.call], answer[0]
+    tally.update(('calls', f'refusal {refusal}', f'{call}: {refusal}', f'{made.about}: {refusal}', f'length {len(made.queue)}'))
+    tally.update(f'{call}: {refusal} before {other}' for other in probes.applying(made)[1:])
+    return answer
+
+
+# ---- What must have been seen
+
+def goals():
+    numbers = [f'refusal {number}' for number in range(1, 11)]
+    by_call = [f'{CALLS[call]}: {number}' for call, checks in CHECKS.items() for number in (0, *checks)]
+    fields = [f'damaged {field}: 2' for field in FIELDS if field not in NEVER_UNSOUND]
+    return numbers + by_call + orders() + fields
+
+
+def orders():
+    """Each check of a call before each later one. No number is both at most the last unit and above the limit."""
+    return [
+        f'{CALLS[call]}: {first} before {other}'
+        for call, checks in CHECKS.items() for first, other in combinations(checks, 2) if (first, other) != (6, 7)
+    ]
+
+
+def covered(tally):
+    by_call = ''.join(
+        f'\n    {name}: done {tally[name + ": 0"]:,}, refused ' + ', '.join(f'{number} {tally[f"{name}: {number}"]:,}' for number in CHECKS[call])
+        for call, name in CALLS.items()
+    )
+    seen = sum(tally[order] > 0 for order in orders())
+    return (
+        f'{tally["calls"]:,} calls, memories of every length to {MOST_WORDS:,} words, each field damaged{by_call}'
+        f'\n    {seen} of {len(orders())} orders of two checks that both apply'
+    )
+
+
+def difference(made, answers):
+    """The call, the record and the first word in which the answers differ."""
+    record = ' '.join(f'{field}={word}' for field, word in zip(FIELDS, made.st.words()) if word)
+    split = {name: answer.split() for name, answer in answers.items()}
+    longest = max(map(len, split.values()))
+    at = next(at for at in range(longest) if len({tuple(answer[at:at + 1]) for answer in split.values()}) > 1)
+    where = NAMES[at] if at < len(NAMES) else f'queue word {at - len(NAMES)}'
+    saved = save(f'probe {made.about} {zlib.crc32(probes.written(made.words())):08x}', probes.written(made.words()) + b'\n')
+    said = [f'probe, {made.about}: {CALLS[made.call]} {made.arguments} with {len(made.queue)} queue words: {where} differs']
+    said += [f'  request: {saved}', f'  record: {record}']
+    said += [f'  {name}: {b" ".join(answer[at:at + 1]).decode() or "(nothing)"}' for name, answer in split.items()]
+    return '\n'.join(said)
