@@ -2,7 +2,8 @@
 
 import zlib
 from collections import Counter
-from itertools import combinations
+from functools import partial
+from itertools import combinations, zip_longest
 
 import model
 import probes
@@ -10,7 +11,7 @@ import programs
 from model import FIELDS
 from parallel import in_parallel
 from probes import CALLS, CHECKS, MOST_WORDS, Probes
-from report import save
+from report import SHOWN, cut, save
 
 BATCH_BYTES = 8_000_000
 NAMES = ('refusal', 'kind', 'number', 'unit', 'value', *FIELDS)
@@ -49,8 +50,10 @@ def run_task(task):
     tally, agreed, said = Counter(), 0, []
     for batch in batches(getattr(Probes(f'{seed}-{kind}-{argument}'), kind)(argument)):
         for what in compare(jobs, batch, tally):
-            agreed += not what
-            said += [what] if what else []
+            if what is None:
+                agreed += 1
+            else:
+                said.append(what() if len(said) < SHOWN else kind)
     return tally, agreed, said
 
 
@@ -68,15 +71,13 @@ def batches(stream):
 
 
 def compare(jobs, batch, tally):
-    """For each request an empty text where all agree, else what differs."""
+    """For each request None where all agree, else a function that says what differs."""
     sent = [probes.written(made.words()) for made in batch]
     answers = {'model': [probes.written(answered(made, tally)) for made in batch]}
     for name, output in programs.outputs(jobs, b''.join(line + b'\n' for line in sent)).items():
         answers[name] = output.split(b'\n')[:-1]
-        if len(answers[name]) != len(batch):
-            yield f'probe: {name} gave {len(answers[name]):,} answers to {len(batch):,} requests'
-    for made, *lines in zip(batch, *answers.values()):
-        yield '' if len(set(lines)) == 1 else difference(made, dict(zip(answers, lines)))
+    for made, *lines in zip_longest(batch, *answers.values(), fillvalue=b''):
+        yield None if len(set(lines)) == 1 else partial(difference, made, dict(zip(answers, lines)))
 
 
 def answered(made, tally):
@@ -119,6 +120,8 @@ def covered(tally):
 
 def difference(made, answers):
     """The call, the record and the first word in which the answers differ."""
+    if not made:
+        return 'probe: more answers than requests'
     record = ' '.join(f'{field}={word}' for field, word in zip(FIELDS, made.st.words()) if word)
     split = {name: answer.split() for name, answer in answers.items()}
     longest = max(map(len, split.values()))
@@ -127,5 +130,5 @@ def difference(made, answers):
     saved = save(f'probe {made.about} {zlib.crc32(probes.written(made.words())):08x}', probes.written(made.words()) + b'\n')
     said = [f'probe, {made.about}: {CALLS[made.call]} {made.arguments} with {len(made.queue)} queue words: {where} differs']
     said += [f'  request: {saved}', f'  record: {record}']
-    said += [f'  {name}: {b" ".join(answer[at:at + 1]).decode() or "(nothing)"}' for name, answer in split.items()]
+    said += [f'  {name}, from there: {cut(b" ".join(answer[at:at + 6])) or "(nothing)"}' for name, answer in split.items()]
     return '\n'.join(said)

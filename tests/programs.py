@@ -93,6 +93,38 @@ def mistaken(number):
     return f'second-mistake-{number}'
 
 
+def second_under_kit():
+    """The words that run the second program as the recorder is run: built by the kit's compiler, for x86-64, with its C library.
+
+    The kit has no headers, so they are those of this machine's compiler; what they declare is the same.
+    """
+    sources = sorted((SECOND_ROOT / 'second').glob('*.c'))
+    if not sources:
+        raise Missing('second/ has no program')
+    objects = [BUILD / f'kit-{source.stem}.o' for source in sources]
+    path = BUILD / 'second-kit'
+    BUILD.mkdir(exist_ok=True)
+    target = 'x86_64-unknown-linux-gnu'
+    headers = [word for folder in header_folders() for word in ('-isystem', folder)]
+    for source, made in zip(sources, objects):
+        build_step([toolchain() / 'bin' / 'clang', f'--target={target}', '-std=c11', '-O2', '-nostdinc', *headers, '-c', source, '-o', made])
+    build_step([kit_here() / 'bin' / 'rattle-link', '--target', target, '--toolchain', toolchain(), '-o', path, *objects])
+    return under_kit(path)
+
+
+def header_folders():
+    """Where this machine's C compiler looks for headers."""
+    said = subprocess.run(['cc', '-E', '-v', '-x', 'c', '/dev/null'], capture_output=True, text=True, env={**os.environ, 'LC_ALL': 'C'}).stderr
+    listed = said.partition('search starts here:\n#include <...> search starts here:\n')[2].partition('End of search list.')[0]
+    return [line.strip() for line in listed.splitlines()]
+
+
+def build_step(words):
+    done = subprocess.run([str(word) for word in words], capture_output=True, text=True)
+    if done.returncode != 0:
+        raise Missing(f'{words[0]} failed: {done.stderr.strip()[:2000]}')
+
+
 # ---- The two jobs
 
 def recorder_job(name):

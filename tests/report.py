@@ -9,6 +9,11 @@ class Report:
     def __init__(self):
         self.passed = 0
         self.failed = 0
+        self.shown = 0
+
+    def next_part(self):
+        """Each part may show its own first failures."""
+        self.shown = 0
 
     def check(self, good, what):
         """Counts one comparison; a failed one is said at once."""
@@ -16,15 +21,18 @@ class Report:
             self.passed += 1
             return
         self.failed += 1
-        if self.failed <= SHOWN:
+        self.shown += 1
+        if self.shown <= SHOWN:
             print(f'FAILED: {what}')
-        elif self.failed == SHOWN + 1:
-            print('(further failures are counted and not shown)')
+        elif self.shown == SHOWN + 1:
+            print('(further failures of this part are counted and not shown)')
 
     def agreed(self, name, text, outputs):
         """Counts one session; where its outputs differ the session is saved and the first difference said."""
-        good = len(set(outputs.values())) == 1
-        self.check(good, '' if good else difference(name, text, outputs))
+        if len(set(outputs.values())) == 1:
+            self.passed += 1
+        else:
+            self.check(False, difference(name, text, outputs) if self.shown < SHOWN else name)
 
     def reached(self, counts, goals):
         """A goal that was never reached is a failure: what was not tried is not tested."""
