@@ -14,9 +14,14 @@ from probes import CALLS, CHECKS, MOST_WORDS, Probes
 from report import SHOWN, cut, save
 
 BATCH_BYTES = 8_000_000
+KINDS = {'sound': 2_000, 'willing': 3_000, 'damaged': 2_000, 'chance': 500, 'opens': 500, 'stacked': 3_000, 'other_rooms': 250, 'rooms': 1}
 NAMES = ('refusal', 'kind', 'number', 'unit', 'value', *FIELDS)
 # Any generator state and either way of hearing are sound, and another C is refused 1: damage there breaks no rule.
 NEVER_UNSOUND = ('C', 's', 'heard')
+# No unit follows the last, and a find in sampling is refused.
+NO_SUCH_TURN = {
+    (probes.UNIT, 'last at its limit'), *((probes.FIND, limit) for limit in ('row one short of i', 'row at i', 'watch one short of i', 'level 2')),
+}
 
 
 def check(report, pair, options):
@@ -37,9 +42,8 @@ def tasks(options):
     """What each process does: a seed, a kind of request, and how many or which. The numbers grow with --count."""
     portions = max(1, options.count // 500)
     for at in range(portions):
-        for kind, count in (('sound', 2_000), ('damaged', 2_000), ('chance', 500), ('opens', 500), ('stacked', 3_000), ('other_rooms', 250)):
+        for kind, count in KINDS.items():
             yield f'{options.seed}-{at}', kind, count
-        yield f'{options.seed}-{at}', 'rooms', 1
     for start in range(0, MOST_WORDS + 1, 400):
         yield options.seed, 'lengths', range(start, min(start + 400, MOST_WORDS + 1))
 
@@ -86,6 +90,8 @@ def answered(made, tally):
     call, refusal = CALLS[made.call], answer[0]
     tally.update(('calls', f'refusal {refusal}', f'{call}: {refusal}', f'{made.about}: {refusal}', f'length {len(made.queue)}'))
     tally.update(f'{call}: {refusal} before {other}' for other in probes.applying(made)[1:])
+    if made.call != probes.OPEN and refusal in (0, 10):
+        tally.update(f'{call} at {limit}' for limit in probes.limits(made.st))
     return answer
 
 
@@ -95,7 +101,8 @@ def goals():
     numbers = [f'refusal {number}' for number in range(1, 11)]
     by_call = [f'{CALLS[call]}: {number}' for call, checks in CHECKS.items() for number in (0, *checks)]
     fields = [f'damaged {field}: 2' for field in FIELDS if field not in NEVER_UNSOUND]
-    return numbers + by_call + orders() + fields
+    limits = [f'{CALLS[call]} at {limit}' for call in probes.ON_A_RECORD for limit in probes.LIMITS if (call, limit) not in NO_SUCH_TURN]
+    return numbers + by_call + orders() + fields + limits
 
 
 def orders():
@@ -114,7 +121,7 @@ def covered(tally):
     seen = sum(tally[order] > 0 for order in orders())
     return (
         f'{tally["calls"]:,} calls, memories of every length to {MOST_WORDS:,} words, each field damaged{by_call}'
-        f'\n    {seen} of {len(orders())} orders of two checks that both apply'
+        f'\n    {seen} of {len(orders())} orders of two checks that both apply, and calls at each of {len(probes.LIMITS)} limits of a record'
     )
 
 

@@ -63,6 +63,20 @@ class Probes(Records):
                 for call in ON_A_RECORD:
                     yield self.request('sound', call, st, queue)
 
+    def willing(self, count):
+        """Records on which the call can be done, often with the last event numbers next."""
+        for _ in range(count):
+            room = self.random.choice(SMALL_ROOMS)
+            made = self.request('willing', self.any_call(), self.made_up(room), self.memory(room))
+            (self.owing if made.call == RESULT else self.owing_nothing)(made)
+            if made.call == UNIT:
+                made.arguments = [made.st.last + self.random.choice((1, 1, 2, 9))]
+            if made.call == FIND and made.st.phase == SCREENING and made.st.conforming:
+                made.st.unrecalled = max(made.st.unrecalled, 1)
+            if self.random.random() < 0.3:
+                self.last_numbers(made.st)
+            yield made
+
     def damaged(self, count):
         """Every field of a sound record changed, field after field."""
         for _ in range(count // 20):
@@ -132,9 +146,7 @@ class Probes(Records):
         )
 
     def no_numbers(self, made):
-        st = made.st
-        st.next = self.random.choice((EVENT_LIMIT, EVENT_LIMIT + 1))
-        st.told = st.oldest = st.next - self.random.randrange(9)
+        self.numbers_from(made.st, self.random.choice((EVENT_LIMIT, EVENT_LIMIT + 1)))
 
     def owing(self, made):
         st = made.st
@@ -188,3 +200,34 @@ def applying(made):
         10: st.next > EVENT_LIMIT - 1,
     }
     return [number for number in CHECKS[made.call] if applies[number]]
+
+
+LIMITS = (
+    *(f'next {number:,}' for number in range(EVENT_LIMIT - 2, EVENT_LIMIT + 2)),
+    'last at its limit', 'run one short of need', 'need x', 'screened one short of S', 'screened at S', 'row one short of i', 'row at i',
+    'watch one short of i', 'level 2', 'queue empty', 'queue full', 'queue one short of full', 'gap', 'silent at its most',
+)
+
+
+def limits(st):
+    """The limits of document 01 that a sound record stands at."""
+    held = st.next - st.oldest
+    screening, sampling = st.phase == SCREENING, st.phase == SAMPLING
+    at = {
+        f'next {st.next:,}': True,
+        'last at its limit': st.last == model.unit_limit(st),
+        'run one short of need': screening and st.run == st.need - 1,
+        'need x': screening and st.need < st.i,
+        'screened one short of S': screening and st.screened == st.S - 1,
+        'screened at S': screening and st.screened == st.S > 0,
+        'row one short of i': sampling and st.row == st.i - 1,
+        'row at i': sampling and st.row == st.i,
+        'watch one short of i': st.watch and st.watched == st.i - 1,
+        'level 2': st.level == 2,
+        'queue empty': held == 0,
+        'queue full': held == st.C,
+        'queue one short of full': held == st.C - 1,
+        'gap': st.told < st.oldest,
+        'silent at its most': st.silent == st.next - 2,
+    }
+    return [name for name, holds in at.items() if holds]

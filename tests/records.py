@@ -93,14 +93,21 @@ class Records:
             st.watch, st.watched = 1, self.pick(0, st.i - 1)
 
     def numbers(self, st):
-        limits = range(EVENT_LIMIT - 2, EVENT_LIMIT + 2)
-        st.next = self.random.choice((2, 3, st.C + 1, st.C + 2, self.random.choice(limits), self.pick(2, EVENT_LIMIT + 1)))
-        held = self.random.choice((0, 1, st.C - 2, st.C - 1, st.C, st.C))
-        held = min(held, st.next - 1)
-        st.oldest = st.next - held
+        self.numbers_from(st, self.random.choice((2, 3, st.C + 1, st.C + 2, self.pick(2, EVENT_LIMIT + 1))))
+        if self.random.random() < 0.2:
+            self.last_numbers(st)
+        st.heard = self.random.randrange(2)
+
+    def last_numbers(self, st):
+        """Two numbers left, one, or none."""
+        self.numbers_from(st, self.random.randrange(EVENT_LIMIT - 2, EVENT_LIMIT + 2))
+
+    def numbers_from(self, st, next):
+        """Queues that are empty, full or nearly so, and full ones with a gap."""
+        held = min(self.random.choice((0, 1, st.C - 2, st.C - 1, st.C, st.C)), next - 1)
+        st.next, st.oldest = next, next - held
         st.told = self.pick(1, st.oldest) if held == st.C else st.oldest
         st.silent = self.pick(0, st.next - 2)
-        st.heard = self.random.randrange(2)
 
     # ---- Records that break a rule, or may
 
