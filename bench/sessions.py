@@ -16,7 +16,7 @@ def nothing(frames):
 
 
 def mixed(frames):
-    """A line of work under CSP-2: units and results, a defect in fifty, a jump or an interrupt now and then, ticks and takes."""
+    """A line of work under CSP-2: a defect in fifty, a jump or an interrupt now and then, ticks and takes."""
     chosen, script = random.Random(1), Script()
     script.open(CSP_2, 5, 20, 200, seed=1)
     while len(script.lines) < frames:
@@ -59,7 +59,9 @@ def takes(frames):
     return words(1, CSP_1, 2, 1, 1, 0, 0, 0) + b'\n' + turn * (frames // 13)
 
 
-SESSIONS = {'no frames': nothing, 'mixed': mixed, 'screening': screening, 'sampling': sampling, 'tick storm': ticks, 'takes': takes}
+SESSIONS = {
+    'no frames': nothing, 'mixed': mixed, 'screening': screening, 'sampling': sampling, 'tick storm': ticks, 'takes': takes,
+}
 
 
 def written(name, frames):

@@ -153,7 +153,7 @@ def table_laws():
     rows = TABLE_V[:10]
     falling_i = all(rising([i for i, _ in reversed(row)]) for row in rows)
     rising_i = all(rising([i for i, _ in column]) for column in zip(*rows))
-    s_breaks = [(letter, column) for letter, row in enumerate(rows) for column in range(7) if row[column][1] <= row[column + 1][1]]
+    s_breaks = [(at, column) for at, row in enumerate(rows) for column in range(7) if row[column][1] <= row[column + 1][1]]
     s_rises = all(rising([S for _, S in column]) for column in zip(*rows))
     letters = all(rising(cells) for _, cells in TABLE_III_A_4)
     periods = all(sorted(column) == list(column) for column in zip(*(cells for _, cells in TABLE_III_A_4)))

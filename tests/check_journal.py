@@ -42,8 +42,9 @@ EVERY_KIND = '''\
 Numbers 1 to 17: all accounted for; only named by a marker: 2 to 9.
 '''
 KINDS = [
-    (0, 1, 1, 0, 10_000), (0, 9, 2, 0, 1), (0, 9, 3, 0, 7), (0, 2, 10, 1_234, 3), (0, 3, 11, 1_235, 300), (0, 4, 12, 1_235, 0),
-    (0, 4, 13, 1_236, 1), (0, 5, 14, 1_237, 3), (0, 6, 15, 1_240, 1), (0, 7, 16, 1_240, 0), (10, 0, 0, 0, 0), (0, 8, 17, 1_240, 0),
+    (0, 1, 1, 0, 10_000), (0, 9, 2, 0, 1), (0, 9, 3, 0, 7), (0, 2, 10, 1_234, 3), (0, 3, 11, 1_235, 300),
+    (0, 4, 12, 1_235, 0), (0, 4, 13, 1_236, 1), (0, 5, 14, 1_237, 3), (0, 6, 15, 1_240, 1), (0, 7, 16, 1_240, 0),
+    (10, 0, 0, 0, 0), (0, 8, 17, 1_240, 0),
 ]
 DAMAGED = [
     b'\n', b'00 00 00000000 00000000 0000000\n', b'00 00 00000000 00000000 000000000\n', b'00 00 00000000  00000000 00000000\n',
@@ -59,20 +60,30 @@ DAMAGED = [
 
 
 def check(report, pair, options):
-    example = (FOLDER / 'example.out').read_bytes()
-    says(report, 'the example', example, EXAMPLE, 0)
-    says(report, 'every kind', lines(*KINDS), EVERY_KIND, 0, '--events')
-    closes(report, 'no lines', b'', 'No event is told.', 0)
-    closes(report, 'one event', lines((0, 1, 1, 0, 2)), 'Numbers 1: all accounted for; none only named by a marker.', 0)
-    closes(report, 'a hole', silences(1, 2, 5), 'Numbers 1 to 5: missing: 3 to 4; none only named by a marker.', 1)
-    closes(report, 'a lost start', silences(2, 3), 'Numbers 1 to 3: missing: 1; none only named by a marker.', 1)
-    closes(report, 'a repeated line', silences(1, 2, 2, 3), 'Numbers 1 to 3: all accounted for; out of order: 2; none only named by a marker.', 1)
-    closes(report, 'a swapped pair', silences(1, 3, 2, 4), 'Numbers 1 to 4: missing: 2; out of order: 2; none only named by a marker.', 1)
-    closes(report, 'a marker past its place', lines((0, 9, 2, 0, 3)), 'Numbers 1 to 4: missing: 1; only named by a marker: 2 to 4.', 1)
+    says(report, 'the example', (FOLDER / 'example.out').read_bytes(), EXAMPLE)
+    says(report, 'every kind', lines(*KINDS), EVERY_KIND, '--events')
+    for name, text, closing, status in closings():
+        closes(report, name, text, closing, status)
     damaged(report)
     whole_sessions(report)
     missing_file(report)
-    return f'every kind, {len(DAMAGED)} damaged lines, holes, repeats, no lines, and every stored session'
+    return f'every kind, {len(DAMAGED)} damaged lines, {len(closings())} closing lines, and every stored session'
+
+
+def closings():
+    """What the last line says, and the exit status."""
+    none = 'none only named by a marker.'
+    return [
+        ('no lines', b'', 'No event is told.', 0),
+        ('one event', silences(1), f'Number 1: all accounted for; {none}', 0),
+        ('a marker', lines((0, 9, 1, 0, 3)), 'Numbers 1 to 3: all accounted for; only named by a marker: 1 to 3.', 0),
+        ('a hole', silences(1, 2, 5), f'Numbers 1 to 5: missing: 3 to 4; {none}', 1),
+        ('a lost start', silences(2, 3), f'Numbers 1 to 3: missing: 1; {none}', 1),
+        ('a repeated line', silences(1, 2, 2, 3), f'Numbers 1 to 3: all accounted for; out of order: 2; {none}', 1),
+        ('a swapped pair', silences(1, 3, 2, 4), f'Numbers 1 to 4: missing: 2; out of order: 2; {none}', 1),
+        ('a late marker', lines((0, 9, 2, 0, 3)), 'Numbers 1 to 4: missing: 1; only named by a marker: 2 to 4.', 1),
+        ('two sessions', silences(1, 2, 1, 2), f'Numbers 1 to 2: all accounted for; out of order: 1, 2; {none}', 1),
+    ]
 
 
 def journal(text, *options):
@@ -87,16 +98,17 @@ def silences(*numbers):
     return lines(*((0, model.SILENCE, number, 0, 1) for number in numbers))
 
 
-def says(report, name, text, expected, status, *options):
+def says(report, name, text, expected, *options):
     done = journal(text, *options)
-    good = done.stdout.decode() == expected and done.returncode == status and not done.stderr
+    good = done.stdout.decode() == expected and done.returncode == 0 and not done.stderr
     report.check(good, f'bin/journal on {name} says:\n{done.stdout.decode()}{done.stderr.decode()}')
 
 
 def closes(report, name, text, closing, status):
     done = journal(text)
     last = done.stdout.decode().splitlines()[-1]
-    report.check(last == closing and done.returncode == status and not done.stderr, f'bin/journal on {name}: {last} ({done.returncode})')
+    good = last == closing and done.returncode == status and not done.stderr
+    report.check(good, f'bin/journal on {name} ends with {done.returncode} and: {last}')
 
 
 def damaged(report):
@@ -105,15 +117,15 @@ def damaged(report):
         done = journal(silences(1) + line + (silences(2) if line.endswith(b'\n') else b''))
         named = done.stderr.decode().startswith('journal: line 2: ') and done.stderr.count(b'\n') == 1
         read = done.stdout.count(b'SILENCE') == 1 + line.endswith(b'\n') and b'all accounted for' in done.stdout
-        report.check(named and read and done.returncode == 1, f'bin/journal does not name the damaged line {line[:60]!r}: {done.stderr!r}')
+        report.check(named and read and done.returncode == 1, f'bin/journal on the damaged line {line[:60]!r}: {done.stderr!r}')
 
 
 def whole_sessions(report):
     """What a session takes is in order and without a hole, so every stored session reads well."""
     for path in sorted(FOLDER.glob('*.out')):
-        done = subprocess.run([sys.executable, str(ROOT / 'bin' / 'journal'), str(path)], capture_output=True)
-        answers = path.read_bytes().count(b'\n')
-        report.check(done.returncode == 0 and done.stdout.count(b'\n') == answers + 2, f'bin/journal does not read sessions/{path.name}: {done.stderr!r}')
+        done = journal(b'', str(path))
+        read = done.returncode == 0 and done.stdout.count(b'\n') == path.read_bytes().count(b'\n') + 2
+        report.check(read, f'bin/journal does not read sessions/{path.name}: {done.stderr!r}')
 
 
 def missing_file(report):

@@ -27,7 +27,8 @@ def check(report, pair, options):
 def the_end():
     """The last frames, and document 01's answer to each."""
     turns = [(words(2, 1), (0, 0, 0, 0, 1)), (words(3, 1), model.DONE)]
-    turns += [(frame, refused(10)) for frame in (words(2, 2), words(2, 0), words(3, 0), words(3, 2), words(4), words(5), words(6))]
+    no_more = (words(2, 2), words(2, 0), words(3, 0), words(3, 2), words(4), words(5), words(6))
+    turns += [(frame, refused(10)) for frame in no_more]
     turns += [(words(1, 1, 2, 1, 1, 0, 0, 0), refused(9)), (b'6', refused(9))]
     turns += [(words(7), answer) for answer in the_journal()]
     turns += [(words(6), refused(10))]

@@ -14,8 +14,7 @@ def check(report, pair, options):
     for number in programs.MISTAKES:
         words = programs.recorder_job(programs.mistaken(number))
         by_stored, by_random = caught(words, stored), caught(words, random)
-        report.check(by_stored, f'no stored session catches mistake {number}')
-        report.check(by_random, f'none of {TRIES} random sessions catches mistake {number}')
+        report.check(by_stored or by_random, f'no session catches mistake {number}')
         said.append(f'\n    {number}: caught by {len(by_random)} of {TRIES} random sessions, and by {", ".join(by_stored)}')
     return f'{len(said)} of document 01\'s mistakes that look right{"".join(said)}'
 

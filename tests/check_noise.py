@@ -21,7 +21,8 @@ def check(report, pair, options):
         sent = text.count(b'\n') + (not text.endswith(b'\n'))
         lines += sent
         for program, output in outputs.items():
-            report.check(output.count(b'\n') == sent and len(output) == 33 * sent, f'{name}: {program} does not answer {sent:,} lines')
+            each = output.count(b'\n') == sent and len(output) == 33 * sent
+            report.check(each, f'{name}: {program} does not give one answer to each of {sent:,} lines')
         report.agreed(name, text, outputs)
     return f'{SIZE:,} random bytes and as many of random frames, {lines:,} lines'
 
@@ -37,7 +38,8 @@ def run_task(task):
 
 def frames(chosen, type, size):
     """Lines that look like frames: a line of work, with calls out of turn and broken lines among it."""
-    parts = [words(1, type, 2, 3, 0 if type == CSP_F else 5, 2 if type == CSP_V else 0, 1_000_000 if type == CSP_F else 0, chosen.getrandbits(32))]
+    S, x, N = 0 if type == CSP_F else 5, 2 if type == CSP_V else 0, 1_000_000 if type == CSP_F else 0
+    parts = [words(1, type, 2, 3, S, x, N, chosen.getrandbits(32))]
     length, k = 0, 0
     while length < size:
         k += 1 if chosen.random() < 0.999 else chosen.randrange(1, 50)

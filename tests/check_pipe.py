@@ -27,7 +27,8 @@ class Peer:
     """A program on two pipes."""
 
     def __init__(self, words):
-        self.process = subprocess.Popen(words, stdin=subprocess.PIPE, stdout=subprocess.PIPE, bufsize=0, env=programs.environment())
+        pipe = subprocess.PIPE
+        self.process = subprocess.Popen(words, stdin=pipe, stdout=pipe, bufsize=0, env=programs.environment())
         self.heard = b''
 
     def send(self, part):

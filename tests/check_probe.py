@@ -14,13 +14,17 @@ from probes import CALLS, CHECKS, MOST_WORDS, Probes
 from report import SHOWN, cut, save
 
 BATCH_BYTES = 8_000_000
-KINDS = {'sound': 2_000, 'willing': 3_000, 'damaged': 2_000, 'chance': 500, 'opens': 500, 'stacked': 3_000, 'other_rooms': 250, 'rooms': 1}
+KINDS = {
+    'sound': 2_000, 'willing': 3_000, 'damaged': 2_000, 'chance': 500, 'opens': 500, 'stacked': 3_000, 'other_rooms': 250,
+    'rooms': 1,
+}
 NAMES = ('refusal', 'kind', 'number', 'unit', 'value', *FIELDS)
 # Any generator state and either way of hearing are sound, and another C is refused 1: damage there breaks no rule.
 NEVER_UNSOUND = ('C', 's', 'heard')
 # No unit follows the last, and a find in sampling is refused.
 NO_SUCH_TURN = {
-    (probes.UNIT, 'last at its limit'), *((probes.FIND, limit) for limit in ('row one short of i', 'row at i', 'watch one short of i', 'level 2')),
+    (probes.UNIT, 'last at its limit'), (probes.FIND, 'row one short of i'), (probes.FIND, 'row at i'),
+    (probes.FIND, 'watch one short of i'), (probes.FIND, 'level 2'),
 }
 
 
@@ -101,8 +105,8 @@ def goals():
     numbers = [f'refusal {number}' for number in range(1, 11)]
     by_call = [f'{CALLS[call]}: {number}' for call, checks in CHECKS.items() for number in (0, *checks)]
     fields = [f'damaged {field}: 2' for field in FIELDS if field not in NEVER_UNSOUND]
-    limits = [f'{CALLS[call]} at {limit}' for call in probes.ON_A_RECORD for limit in probes.LIMITS if (call, limit) not in NO_SUCH_TURN]
-    return numbers + by_call + orders() + fields + limits
+    turns = [(call, limit) for call in probes.ON_A_RECORD for limit in probes.LIMITS if (call, limit) not in NO_SUCH_TURN]
+    return numbers + by_call + orders() + fields + [f'{CALLS[call]} at {limit}' for call, limit in turns]
 
 
 def orders():
@@ -114,15 +118,16 @@ def orders():
 
 
 def covered(tally):
-    by_call = ''.join(
-        f'\n    {name}: done {tally[name + ": 0"]:,}, refused ' + ', '.join(f'{number} {tally[f"{name}: {number}"]:,}' for number in CHECKS[call])
-        for call, name in CALLS.items()
-    )
     seen = sum(tally[order] > 0 for order in orders())
-    return (
-        f'{tally["calls"]:,} calls, memories of every length to {MOST_WORDS:,} words, each field damaged{by_call}'
-        f'\n    {seen} of {len(orders())} orders of two checks that both apply, and calls at each of {len(probes.LIMITS)} limits of a record'
-    )
+    return ''.join((
+        f'{tally["calls"]:,} calls, memories of every length to {MOST_WORDS:,} words, each field damaged',
+        *(f'\n    {name}: done {tally[name + ": 0"]:,}, refused {refusals(tally, call)}' for call, name in CALLS.items()),
+        f'\n    {seen} of {len(orders())} orders of two checks that both apply, calls at each of {len(probes.LIMITS)} limits',
+    ))
+
+
+def refusals(tally, call):
+    return ', '.join(f'{number} {tally[f"{CALLS[call]}: {number}"]:,}' for number in CHECKS[call])
 
 
 def difference(made, answers):
@@ -135,7 +140,7 @@ def difference(made, answers):
     at = next(at for at in range(longest) if len({tuple(answer[at:at + 1]) for answer in split.values()}) > 1)
     where = NAMES[at] if at < len(NAMES) else f'queue word {at - len(NAMES)}'
     saved = save(f'probe {made.about} {zlib.crc32(probes.written(made.words())):08x}', probes.written(made.words()) + b'\n')
-    said = [f'probe, {made.about}: {CALLS[made.call]} {made.arguments} with {len(made.queue)} queue words: {where} differs']
+    said = [f'probe, {made.about}: {CALLS[made.call]} {made.arguments}, {len(made.queue)} queue words: {where} differs']
     said += [f'  request: {saved}', f'  record: {record}']
     said += [f'  {name}, from there: {cut(b" ".join(answer[at:at + 6])) or "(nothing)"}' for name, answer in split.items()]
     return '\n'.join(said)

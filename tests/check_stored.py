@@ -38,4 +38,5 @@ def by_hand(report):
     command = str(ROOT / 'bin' / 'run')
     text, answers = ((FOLDER / f'example.{part}').read_bytes() for part in ('in', 'out'))
     report.check(programs.output([command, programs.RECORDER], text) == answers, 'bin/run recorder does not give the example')
-    report.check(b'is not built' in programs.output([command, 'no-such-program'], b''), 'bin/run does not say that a program is missing')
+    said = programs.output([command, 'no-such-program'], b'')
+    report.check(b'is not built' in said, 'bin/run does not say that a program is missing')

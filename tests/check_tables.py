@@ -15,7 +15,7 @@ def check(report, pair, options):
         text = script.text()
         report.agreed(name, text, {'model': script.expected(), **programs.outputs(jobs, text)})
     absent(report, jobs, options)
-    return f'{len(sessions)} entries of the two tables, each shown to have its i, n and S or N; {ABSENT:,} entries that are not there'
+    return f'{len(sessions)} entries of the two tables by their i, n and S or N; {ABSENT:,} entries that are not there'
 
 
 def table_v():
@@ -80,7 +80,7 @@ ABSENT = 2_000
 def absent(report, jobs, options):
     """Entries that no table has, many to a session: a refused open leaves the next one free."""
     chosen = random.Random(f'{options.seed}-absent')
-    near = (0, 1, 2, 3, 4, 5, 6, 8, 9, 10, 11, 12, 39, 40, 41, 399, 400, 500, 650, 10_000, 10_001, 70_000, 1_000_000, 1_000_001, 2 ** 32 - 1)
+    near = (*range(13), 39, 40, 41, 399, 400, 500, 650, 10_000, 10_001, 70_000, 1_000_000, 1_000_001, 2 ** 32 - 1)
     script = Script()
     while len(script.lines) < ABSENT:
         entry = [chosen.choice((3, 4, chosen.choice(near))), *(chosen.choice(near) for _ in range(3))]

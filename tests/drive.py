@@ -170,7 +170,8 @@ class Driver(Script):
 
     def ill_formed(self):
         """A good line with one thing wrong in it, or a line of bytes."""
-        good = self.random.choice((words(1, 1, 2, 3, 4, 0, 0, 0xABCDEF), words(2, 0xA1), words(3, 0xF), words(7), words(8, 4, 1, 400, 0)))
+        plan, table = words(1, 1, 2, 3, 4, 0, 0, 0xABCDEF), words(8, 4, 1, 400, 0)
+        good = self.random.choice((plan, table, words(2, 0xA1), words(3, 0xF), words(7)))
         at = self.random.randrange(len(good) + 1)
         self.line(self.random.choice((
             good.lower() + b'a',

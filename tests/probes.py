@@ -204,8 +204,9 @@ def applying(made):
 
 LIMITS = (
     *(f'next {number:,}' for number in range(EVENT_LIMIT - 2, EVENT_LIMIT + 2)),
-    'last at its limit', 'run one short of need', 'need x', 'screened one short of S', 'screened at S', 'row one short of i', 'row at i',
-    'watch one short of i', 'level 2', 'queue empty', 'queue full', 'queue one short of full', 'gap', 'silent at its most',
+    'last at its limit', 'run one short of need', 'need x', 'screened one short of S', 'screened at S',
+    'row one short of i', 'row at i', 'watch one short of i', 'level 2',
+    'queue empty', 'queue full', 'queue one short of full', 'gap', 'silent at its most',
 )
 
 

@@ -94,7 +94,7 @@ def mistaken(number):
 
 
 def second_under_kit():
-    """The words that run the second program as the recorder is run: built by the kit's compiler, for x86-64, with its C library.
+    """The words that run the second program as the recorder is run: built by the kit's compiler, with its C library.
 
     The kit has no headers, so they are those of this machine's compiler; what they declare is the same.
     """
@@ -106,15 +106,17 @@ def second_under_kit():
     BUILD.mkdir(exist_ok=True)
     target = 'x86_64-unknown-linux-gnu'
     headers = [word for folder in header_folders() for word in ('-isystem', folder)]
+    clang = [toolchain() / 'bin' / 'clang', f'--target={target}', '-std=c11', '-O2', '-nostdinc', *headers]
     for source, made in zip(sources, objects):
-        build_step([toolchain() / 'bin' / 'clang', f'--target={target}', '-std=c11', '-O2', '-nostdinc', *headers, '-c', source, '-o', made])
+        build_step([*clang, '-c', source, '-o', made])
     build_step([kit_here() / 'bin' / 'rattle-link', '--target', target, '--toolchain', toolchain(), '-o', path, *objects])
     return under_kit(path)
 
 
 def header_folders():
     """Where this machine's C compiler looks for headers."""
-    said = subprocess.run(['cc', '-E', '-v', '-x', 'c', '/dev/null'], capture_output=True, text=True, env={**os.environ, 'LC_ALL': 'C'}).stderr
+    words = ['cc', '-E', '-v', '-x', 'c', '/dev/null']
+    said = subprocess.run(words, capture_output=True, text=True, env={**os.environ, 'LC_ALL': 'C'}).stderr
     listed = said.partition('search starts here:\n#include <...> search starts here:\n')[2].partition('End of search list.')[0]
     return [line.strip() for line in listed.splitlines()]
 

@@ -49,7 +49,10 @@ class Watcher:
     def __init__(self):
         self.count = Counter()
         self.watches = 0
-        self.calls = {1: self.opened, 2: self.unit, 3: self.result, 4: self.interrupt, 5: self.find, 6: self.tick, 7: self.take, 8: self.opened}
+        self.calls = {
+            1: self.opened, 2: self.unit, 3: self.result, 4: self.interrupt, 5: self.find, 6: self.tick, 7: self.take,
+            8: self.opened,
+        }
 
     def view(self, station):
         return View._make(look(station)) if station else None
@@ -80,7 +83,8 @@ class Watcher:
         if code == 2 and refusal == 7 and before.last == (before.N or UNIT_LIMIT):
             self.reach('period ends' if before.type == CSP_F else 'last unit number')
         if code == 5 and before:
-            self.reach('find while owed' if before.owed else 'find in sampling' if before.phase == SAMPLING else 'find with none left')
+            in_phase = 'find in sampling' if before.phase == SAMPLING else 'find with none left'
+            self.reach('find while owed' if before.owed else in_phase)
 
     # ---- Accepted calls
 

@@ -4,7 +4,9 @@ import random
 
 import model
 from drive import Driver
-from model import CSP_2, CSP_F, CSP_T, CSP_V, EVENT_LIMIT, FIELDS, FLAGS, SAMPLING_FIELDS, SCREENING_FIELDS, UNIT_LIMIT, WORD, Station
+from model import (
+    CSP_2, CSP_F, CSP_T, CSP_V, EVENT_LIMIT, FIELDS, FLAGS, SAMPLING_FIELDS, SCREENING_FIELDS, UNIT_LIMIT, WORD, Station,
+)
 
 EXTREMES = (0, 1, 2, 2 ** 31, WORD - 1, UNIT_LIMIT, UNIT_LIMIT + 1, EVENT_LIMIT + 1, EVENT_LIMIT + 2, 10_000, 100_001)
 
@@ -125,14 +127,15 @@ class Records:
         return Station(words.values())
 
     def other_phase(self, words):
-        """Fields of the other phase do not exist: after a turn of the phase the old ones are gone, and new ones are needed."""
+        """Fields of the other phase do not exist: when the phase is turned over the old ones are gone, and new ones come."""
         gone, fresh = (SCREENING_FIELDS, SAMPLING_FIELDS) if words['phase'] else (SAMPLING_FIELDS, SCREENING_FIELDS)
         words.update((field, 0) for field in gone)
         words.update((field, self.random.choice((0, 1))) for field in fresh)
 
     def fields_of(self, st):
         """The fields that the record has in its phase."""
-        return [field for field in FIELDS if field not in (SAMPLING_FIELDS if st.phase == model.SCREENING else SCREENING_FIELDS)]
+        absent = SAMPLING_FIELDS if st.phase == model.SCREENING else SCREENING_FIELDS
+        return [field for field in FIELDS if field not in absent]
 
     def any_record(self):
         """Words of chance; flags are 0 or 1, and fields of the other phase do not exist."""

@@ -48,7 +48,8 @@ def difference(name, text, outputs):
     saved = save(name, text)
     frames = text.split(b'\n')
     answers = {who: output.split(b'\n') for who, output in outputs.items()}
-    at = next(at for at in range(max(map(len, answers.values()))) if len({line_at(lines, at) for lines in answers.values()}) > 1)
+    longest = max(map(len, answers.values()))
+    at = next(at for at in range(longest) if len({line_at(lines, at) for lines in answers.values()}) > 1)
     said = [f'{name}: frame {at + 1:,} of {saved}', f'  frame: {cut(line_at(frames, at))}']
     said += [f'  {who}: {cut(line_at(lines, at))}' for who, lines in answers.items()]
     return '\n'.join(said)

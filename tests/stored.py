@@ -206,7 +206,7 @@ def csp_1_round(s):
 
 @session
 def csp_2_keeps_its_block(s):
-    """CSP-2: a watch begins and ends within blocks of 7 and disturbs none: each has exactly one unit inspected."""
+    """CSP-2: watches begin and end within blocks of 7 and disturb none: each block has exactly one unit inspected."""
     s.open(CSP_2, 7, 2, seed=1)
     s.good(2)
     for _ in range(4):
@@ -280,7 +280,7 @@ def csp_t_reverts(s):
 
 @session
 def csp_t_drops_the_block(s):
-    """CSP-T: a change of level drops the rest of its block and counts from the next unit; blocks of 400 at level 2."""
+    """CSP-T: a change of level drops the rest of its block and counts from the next unit; level 2 has blocks of 400."""
     s.open(CSP_T, 100, 1, 100_000, seed=0x80000000)
     s.good()
     s.good()
@@ -359,11 +359,14 @@ def table_v_without_seed(s):
 
 @session
 def table_v_with_seed(s):
-    """Frame 08: CSP-T, letter K, AQL 10.0, seed 12345678: i 23, n 100, blocks of 100 and then 200."""
+    """Frame 08: CSP-T, letter K, AQL 10.0, seed 12345678: i 23, n 100, blocks of 100 and then of 200."""
     s.table(CSP_T, K, 10_000, seed=0x12345678)
     s.take()
     s.good(23)
-    s.units(100)
+    s.take_all()
+    s.good(23)
+    s.take_all()
+    s.units(400)
     s.take_all()
 
 
@@ -439,7 +442,7 @@ def plans_out_of_range(s):
 
 @session
 def before_open(s):
-    """Each call before an accepted open gets 2, also with a result that is neither 0 nor 1; a refused open changes nothing."""
+    """Each call before an accepted open gets 2, a result neither 0 nor 1 too; a refused open changes nothing."""
     s.line(words(2, 1))
     for code in (4, 5, 6, 7):
         s.line(words(code))
@@ -548,7 +551,7 @@ def finds_refused(s):
 
 @session
 def long_at_every_defect(s):
-    """LONG comes at each defect once S = 4 are screened, S itself counted, and starts nothing anew; finds set screened to 0."""
+    """S = 4: LONG comes at each defect from the 4th unit screened on, and starts nothing anew; a find sets screened to 0."""
     s.open(CSP_1, 2, 3, 4)
     s.bad(3)
     s.take_all()
@@ -603,7 +606,7 @@ def jump_in_screening(s):
 
 @session
 def jump_in_sampling(s):
-    """A jump in sampling: MISSED, then PHASE with the unit that jumped, which is inspected; the watch and the level are gone."""
+    """A jump in sampling: MISSED, then PHASE with the unit that jumped, which is inspected; the level is gone."""
     s.open(CSP_T, 2, 1)
     s.good(3)
     s.unit(s.station.last + 4)
@@ -682,7 +685,7 @@ def silence(s):
 
 
 @session
-def silence_to_the_end(s):
+def silence_broken_by_units(s):
     """Each tick after a unit is no silence, however many units came between."""
     s.open(CSP_1, 2, 1)
     for between in (1, 2, 1):
@@ -719,7 +722,7 @@ def overflow_twice_in_one_call(s):
 
 @session
 def overflow_at_the_edge(s):
-    """Eight events fit with no marker; the ninth drops one; two events drop two although one place is free."""
+    """Two events that find one place free drop one; eight events fit with no marker."""
     s.open(CSP_1, 2, 1)
     s.tick(7)
     s.take()
@@ -769,17 +772,17 @@ def take_as_it_goes(s):
 # ---- Frames
 
 ILL_FORMED = [
-    b'', b' ', b'0', b'00', b'09', b'0A', b'10', b'FF', b'7', b'007', b'0007', b'0x07', b'+7', b'-7', b'07\r', b'07\t', b'\t07',
-    b' 07', b'07 ', b'07  ', b'07 00000000', b'07,', b'#', b'take',
-    b'02', b'02 ', b'02 1', b'02 0000001', b'02 000000001', b'02 0000000G', b'02 +0000001', b'02 -0000001', b'02 0000 001',
-    b'02  00000001', b'02\t00000001', b'02 00000001 ', b'02 00000001\r', b' 02 00000001', b'0200000001', b'02 00000001 00000002',
-    b'02 0000000a', b'0a 00000001', b'03', b'03 0', b'03 00000000 00000000', b'04 00000000', b'05 00000000', b'06 00000000',
-    b'01 00000001 00000002 00000002 00000003 00000000 00000000',
+    b'', b' ', b'0', b'00', b'09', b'0A', b'10', b'FF', b'7', b'007', b'0007', b'0x07', b'+7', b'-7', b'07\r',
+    b'07\t', b'\t07', b' 07', b'07 ', b'07  ', b'07 00000000', b'07,', b'#', b'take', b'02', b'02 ', b'02 1',
+    b'02 0000001', b'02 000000001', b'02 0000000G', b'02 +0000001', b'02 -0000001', b'02 0000 001', b'02  00000001',
+    b'02\t00000001', b'02 00000001 ', b'02 00000001\r', b' 02 00000001', b'0200000001', b'02 00000001 00000002',
+    b'02 0000000a', b'0a 00000001', b'03', b'03 0', b'03 00000000 00000000', b'04 00000000', b'05 00000000',
+    b'06 00000000', b'01 00000001 00000002 00000002 00000003 00000000 00000000',
     b'01 00000001 00000002 00000002 00000003 00000000 00000000 00000000 00000000',
-    b'01 00000001 00000002 00000002 00000003 00000000 00000000 0000000f',
-    b'08 00000004 00000001 00002710', b'08 00000004 00000001 00002710 00000000 00000000 00000000',
-    b'08 00000004 00000001  00002710 00000000', b'02 0000\x000001', b'\x00', b'07\x00', b'\xff\xfe', b'07\xc2\xa0', b'02\xa000000001',
-    b'02 0000000\xc9\xb9', b'07 07', b'07;07', b'07\x0b', b'07\x0c', b'\x1a',
+    b'01 00000001 00000002 00000002 00000003 00000000 00000000 0000000f', b'08 00000004 00000001 00002710',
+    b'08 00000004 00000001 00002710 00000000 00000000 00000000', b'08 00000004 00000001  00002710 00000000',
+    b'02 0000\x000001', b'\x00', b'07\x00', b'\xff\xfe', b'07\xc2\xa0', b'02\xa000000001', b'02 0000000\xc9\xb9',
+    b'07 07', b'07;07', b'07\x0b', b'07\x0c', b'\x1a',
 ]
 
 
@@ -808,7 +811,7 @@ def ill_formed_after_open(s):
 
 @session
 def line_lengths(s):
-    """Lines of 79, 80, 81, 82, 160, 4,096 and 10,000 characters get one 9 each, however they begin, and nothing of them is kept."""
+    """Lines of 79, 80, 81 and more characters, to 10,000, get one 9 each, and nothing of them is kept."""
     s.open(CSP_1, 2, 2)
     for length in (79, 80, 81, 82, 160, 161, 4_096, 10_000):
         s.line(b'0' * length)
