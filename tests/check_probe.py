@@ -8,6 +8,7 @@ from itertools import combinations, zip_longest
 import model
 import probes
 import programs
+from edges import clauses, edges
 from model import FIELDS
 from parallel import in_parallel
 from probes import CALLS, CHECKS, MOST_WORDS, Probes
@@ -48,15 +49,16 @@ def tasks(options):
     for at in range(portions):
         for kind, count in KINDS.items():
             yield f'{options.seed}-{at}', kind, count
+    yield options.seed, 'edges', list(edges())
     for start in range(0, MOST_WORDS + 1, 400):
-        yield options.seed, 'lengths', range(start, min(start + 400, MOST_WORDS + 1))
+        yield f'{options.seed}-{start}', 'lengths', range(start, min(start + 400, MOST_WORDS + 1))
 
 
 def run_task(task):
     """Requests of one kind: what they tried, how many agreed, and where they did not."""
     jobs, seed, kind, argument = task
     tally, agreed, said = Counter(), 0, []
-    for batch in batches(getattr(Probes(f'{seed}-{kind}-{argument}'), kind)(argument)):
+    for batch in batches(getattr(Probes(f'{seed}-{kind}'), kind)(argument)):
         for what in compare(jobs, batch, tally):
             if what is None:
                 agreed += 1
@@ -106,7 +108,8 @@ def goals():
     by_call = [f'{CALLS[call]}: {number}' for call, checks in CHECKS.items() for number in (0, *checks)]
     fields = [f'damaged {field}: 2' for field in FIELDS if field not in NEVER_UNSOUND]
     turns = [(call, limit) for call in probes.ON_A_RECORD for limit in probes.LIMITS if (call, limit) not in NO_SUCH_TURN]
-    return numbers + by_call + orders() + fields + [f'{CALLS[call]} at {limit}' for call, limit in turns]
+    sides = [f'edge {clause}: 2' for clause, *_ in clauses()]
+    return numbers + by_call + orders() + fields + sides + [f'{CALLS[call]} at {limit}' for call, limit in turns]
 
 
 def orders():
@@ -120,7 +123,8 @@ def orders():
 def covered(tally):
     seen = sum(tally[order] > 0 for order in orders())
     return ''.join((
-        f'{tally["calls"]:,} calls, memories of every length to {MOST_WORDS:,} words, each field damaged',
+        f'{tally["calls"]:,} calls, memories of every length to {MOST_WORDS:,} words, each field damaged, ',
+        f'{len(list(clauses()))} edges of a sound record',
         *(f'\n    {name}: done {tally[name + ": 0"]:,}, refused {refusals(tally, call)}' for call, name in CALLS.items()),
         f'\n    {seen} of {len(orders())} orders of two checks that both apply, calls at each of {len(probes.LIMITS)} limits',
     ))

@@ -77,6 +77,13 @@ class Probes(Records):
                 self.last_numbers(made.st)
             yield made
 
+    def edges(self, clauses):
+        """Every call on the records to both sides of each edge of "A sound record"."""
+        for clause, *both in clauses:
+            for st in both:
+                for call in ON_A_RECORD:
+                    yield self.request(f'edge {clause}', call, st, self.memory(st.C))
+
     def damaged(self, count):
         """Every field of a sound record changed, field after field."""
         for _ in range(count // 20):
