@@ -1,5 +1,10 @@
 // Document 01, "Plan numbers" and "A sound record": total tests of a plan and of a record. They have no
 // branch where they can do without, so that every call pays the same for them.
+use rules::CSP_2;
+use rules::CSP_F;
+use rules::CSP_T;
+use rules::CSP_V;
+use rules::EVENTS_END;
 use rules::Numbers;
 use rules::Phase;
 use rules::Plan;
@@ -8,20 +13,13 @@ use rules::Screening;
 use rules::Silence;
 use rules::Station;
 use rules::Tally;
+use rules::UNIT_LIMIT;
 ghost use mathlib.Core.Path.{_≡_};
 ghost use Prim.Native.Nat.{_+_, _≤_};
 ghost use Rattle.rules.specs.Tests.{pick, within};
 ghost use Rattle.rules.specs.Plan.{inRange, unitLimit, roomInRange};
 ghost use Rattle.rules.specs.Sampling.{blockLength, nextPlace};
 ghost use Rattle.rules.specs.Sound.{one, soundTally, soundNeed, soundScreening, soundLevel, soundPlaces, soundRow, soundWatch, soundSampling, soundPhase, soundNumbers, soundSilence, sound};
-
-const CSP_2: u32 = 2;
-
-const CSP_F: u32 = 3;
-
-const CSP_T: u32 = 4;
-
-const CSP_V: u32 = 5;
 
 fn picked(test: bool, yes: bool, no: bool) -> bool
     ensures { λ r. ⌜ r ≡ pick test yes no ⌝ }
@@ -39,14 +37,14 @@ fn in_bounds(low: u32, x: u32, high: u32) -> bool
 pub fn in_range(p: Plan) -> bool
     ensures { λ r. ⌜ r ≡ inRange p ⌝ }
 {
-    in_bounds(1, p.kind, 5)
+    in_bounds(1, p.kind, CSP_V)
         & in_bounds(2, p.n, 200)
         & in_bounds(1, p.i, 10000)
         & picked(p.kind == CSP_F, p.s == 0, in_bounds(p.i, p.s, 100000))
         & picked(p.kind == CSP_V, in_bounds(1, p.x, p.i), p.x == 0)
         & picked(
             p.kind == CSP_F,
-            in_bounds(1, p.period, 1000000),
+            in_bounds(1, p.period, UNIT_LIMIT),
             p.period == 0,
         )
 }
@@ -55,7 +53,11 @@ pub fn in_range(p: Plan) -> bool
 pub fn unit_limit(p: Plan) -> u32
     ensures { λ r. ⌜ r ≡ unitLimit p ⌝ }
 {
-    if p.kind == CSP_F { p.period } else { 1000000 }
+    if p.kind == CSP_F {
+        p.period
+    } else {
+        UNIT_LIMIT
+    }
 }
 
 // Is this a queue's room?
@@ -183,7 +185,7 @@ fn sound_numbers(room: u32, n: Numbers) -> bool
         & (n.told <= n.oldest)
         & (n.oldest <= n.next)
         & (2 <= n.next)
-        & (n.next <= 8000001)
+        & (n.next <= EVENTS_END)
         & (next <= full)
         & ((n.oldest == n.told) | (next == full))
 }

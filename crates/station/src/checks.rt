@@ -1,4 +1,5 @@
 // Document 01, "Calls and their checks": each call's checks in the document's order.
+use rules::EVENTS_END;
 use rules::Phase;
 use rules::Plan;
 use rules::Refusal;
@@ -33,7 +34,7 @@ fn wrong_queue(room: u32, len: usize) -> bool
 fn numbers_spent(next: u32) -> bool
     ensures { λ r. ⌜ r ≡ numbersSpent next ⌝ }
 {
-    8000001 < (next as u64) + 2
+    (EVENTS_END as u64) < (next as u64) + 2
 }
 
 fn nothing_to_find(phase: Phase) -> bool

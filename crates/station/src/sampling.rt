@@ -2,6 +2,9 @@
 use crate::screening::start_sampling;
 use crate::screening::start_screening;
 use rules::Arrived;
+use rules::CSP_2;
+use rules::CSP_T;
+use rules::CSP_V;
 use rules::Drawn;
 use rules::Event;
 use rules::Kind;
@@ -125,13 +128,13 @@ pub fn sampled_good(p: Plan, unit: u32, m: Sampling) -> Moved
     requires { ⌜ (m .level ≤ 2) × (m .row ≤ 10000) × (m .watched ≤ 10000) ⌝ }
     ensures { λ r. ⌜ r ≡ sampledGood p unit m ⌝ }
 {
-    if p.kind == 4 {
+    if p.kind == CSP_T {
         return good_t(p, unit, m);
     }
-    if p.kind == 5 {
+    if p.kind == CSP_V {
         return good_v(p, m);
     }
-    if p.kind == 2 {
+    if p.kind == CSP_2 {
         return good_2(p, m);
     }
     quiet(Phase::Sample(m))
@@ -140,7 +143,7 @@ pub fn sampled_good(p: Plan, unit: u32, m: Sampling) -> Moved
 fn need_after_sampling(p: Plan, row: u32) -> u32
     ensures { λ r. ⌜ r ≡ needAfterSampling p row ⌝ }
 {
-    if (p.kind == 5) & (p.i <= row) {
+    if (p.kind == CSP_V) & (p.i <= row) {
         p.x
     } else {
         p.i
@@ -170,7 +173,7 @@ fn revert(need: u32, unit: u32) -> Moved
 pub fn sampled_bad(p: Plan, unit: u32, m: Sampling) -> Moved
     ensures { λ r. ⌜ r ≡ sampledBad p unit m ⌝ }
 {
-    if (p.kind == 2) & !m.watch {
+    if (p.kind == CSP_2) & !m.watch {
         return Moved {
             phase: with_counts(m.row, true, 0, m),
             raised: Raised::One(Event {

@@ -1,4 +1,5 @@
 // Document 01, "Screening".
+use rules::CSP_V;
 use rules::Event;
 use rules::Kind;
 use rules::Moved;
@@ -82,7 +83,7 @@ pub fn screened_good(unit: u32, c: Screening) -> Moved
 fn need_after_defect(p: Plan, need: u32) -> u32
     ensures { λ r. ⌜ r ≡ needAfterDefect p need ⌝ }
 {
-    if p.kind == 5 { p.i } else { need }
+    if p.kind == CSP_V { p.i } else { need }
 }
 
 fn long_screening(p: Plan, screened: u32) -> bool

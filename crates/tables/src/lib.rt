@@ -7,8 +7,11 @@ use figures::FREQUENCIES;
 use figures::TABLE_III_A_4;
 use figures::TABLE_V_I;
 use figures::TABLE_V_S;
+use rules::CSP_F;
+use rules::CSP_T;
 use rules::Found;
 use rules::Plan;
+use rules::UNIT_LIMIT;
 ghost use mathlib.Core.Path.{_≡_};
 ghost use Prim.Native.Nat.{_≤_, _<_};
 ghost use Rattle.rules.specs.Tables.{column, row, letterRow, inV, inIIIA4, planV, planIIIA4, lookUp};
@@ -56,17 +59,17 @@ fn letter_row(letter: u32) -> usize
 fn in_v(kind: u32, letter: u32, aql: u32, period: u32) -> bool
     ensures { λ r. ⌜ r ≡ inV kind letter aql period ⌝ }
 {
-    (kind == 4) & ((1 <= letter) & (letter <= 11)) & (column(aql) < 8) & (period == 0)
+    (kind == CSP_T) & ((1 <= letter) & (letter <= 11)) & (column(aql) < 8) & (period == 0)
 }
 
 // Whether Table III-A-4 has an entry.
 fn in_iii_a_4(kind: u32, letter: u32, aql: u32, period: u32) -> bool
     ensures { λ r. ⌜ r ≡ inIIIA4 kind letter aql period ⌝ }
 {
-    (kind == 3)
+    (kind == CSP_F)
         & ((1 <= letter) & (letter <= 8))
         & (aql == 40)
-        & ((1 <= period) & (period <= 1000000))
+        & ((1 <= period) & (period <= UNIT_LIMIT))
 }
 
 // The entry of Table V.
@@ -78,7 +81,7 @@ fn plan_v(letter: u32, aql: u32) -> Plan
     let by_aql = column(aql);
     let cell = by_letter * 8 + by_aql;
     Plan {
-        kind: 4,
+        kind: CSP_T,
         n: FREQUENCIES[(letter - 1) as usize],
         i: TABLE_V_I[cell],
         s: TABLE_V_S[cell],
@@ -96,7 +99,7 @@ fn plan_iii_a_4(letter: u32, period: u32) -> Plan
     let by_period = row(period);
     let cell = by_period * 8 + by_letter;
     Plan {
-        kind: 3,
+        kind: CSP_F,
         n: FREQUENCIES[by_letter],
         i: TABLE_III_A_4[cell],
         s: 0,

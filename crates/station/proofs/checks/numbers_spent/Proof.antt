@@ -8,4 +8,4 @@ unfolding numbersSpent
 returns c = search needs
 
 pub numbers-spent-spec : {M : Type 1} → statement M
-numbers-spent-spec = tie.close (tie.spec (λ c. search needs) returns)
+numbers-spent-spec = tie.close (tie.spec (λ c. search needs) (λ c. search needs) returns)
