@@ -1,0 +1,9 @@
+// One line in, one answer line out (document 01, "Frames").
+mod digits;
+mod printing;
+mod reading;
+mod weights;
+
+pub use printing::answer_line;
+pub use printing::answer_values;
+pub use reading::read_line;
