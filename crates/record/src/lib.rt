@@ -1,0 +1,212 @@
+// Document 01, "Plan numbers" and "A sound record": total tests of a plan and of a record. They have no
+// branch where they can do without, so that every call pays the same for them.
+use rules::Numbers;
+use rules::Phase;
+use rules::Plan;
+use rules::Sampling;
+use rules::Screening;
+use rules::Silence;
+use rules::Station;
+use rules::Tally;
+ghost use mathlib.Core.Path.{_≡_};
+ghost use Prim.Native.Nat.{_≤_};
+ghost use Rattle.rules.specs.Tests.{pick, within};
+ghost use Rattle.rules.specs.Plan.{inRange, unitLimit, roomInRange};
+ghost use Rattle.rules.specs.Sampling.{blockLength, nextPlace};
+ghost use Rattle.rules.specs.Sound.{one, soundTally, soundNeed, soundScreening, soundLevel, soundPlaces, soundRow, soundWatch, soundSampling, soundPhase, soundNumbers, soundSilence, sound};
+
+const CSP_2: u32 = 2;
+
+const CSP_F: u32 = 3;
+
+const CSP_T: u32 = 4;
+
+const CSP_V: u32 = 5;
+
+fn picked(test: bool, yes: bool, no: bool) -> bool
+    ensures { λ r. ⌜ r ≡ pick test yes no ⌝ }
+{
+    if test { yes } else { no }
+}
+
+fn in_bounds(low: u32, x: u32, high: u32) -> bool
+    ensures { λ r. ⌜ r ≡ within low x high ⌝ }
+{
+    (low <= x) & (x <= high)
+}
+
+// Is every plan number in its range?
+pub fn in_range(p: Plan) -> bool
+    ensures { λ r. ⌜ r ≡ inRange p ⌝ }
+{
+    in_bounds(1, p.kind, 5)
+        & in_bounds(2, p.n, 200)
+        & in_bounds(1, p.i, 10000)
+        & picked(p.kind == CSP_F, p.s == 0, in_bounds(p.i, p.s, 100000))
+        & picked(p.kind == CSP_V, in_bounds(1, p.x, p.i), p.x == 0)
+        & picked(
+            p.kind == CSP_F,
+            in_bounds(1, p.period, 1000000),
+            p.period == 0,
+        )
+}
+
+// The highest unit number of a plan.
+pub fn unit_limit(p: Plan) -> u32
+    ensures { λ r. ⌜ r ≡ unitLimit p ⌝ }
+{
+    if p.kind == CSP_F { p.period } else { 1000000 }
+}
+
+// Is this a queue's room?
+pub fn room_in_range(room: u32) -> bool
+    ensures { λ r. ⌜ r ≡ roomInRange room ⌝ }
+{
+    in_bounds(8, room, 4096)
+}
+
+fn counted(flag: bool) -> u64
+    ensures { λ r. ⌜ (r ≡ one flag) × (r ≤ 1) ⌝ }
+{
+    if flag { 1 } else { 0 }
+}
+
+// A record from elsewhere may hold any numbers: sums of them are taken in 64 bits.
+fn sound_tally(p: Plan, t: Tally) -> bool
+    ensures { λ r. ⌜ r ≡ soundTally p t ⌝ }
+{
+    let sum = (t.conforming as u64)
+        + (t.defective as u64)
+        + (t.passed as u64)
+        + (t.missed as u64)
+        + counted(t.owed);
+    (sum == (t.last as u64)) & (t.last <= unit_limit(p))
+}
+
+fn sound_need(p: Plan, need: u32) -> bool
+    ensures { λ r. ⌜ r ≡ soundNeed p need ⌝ }
+{
+    (need == p.i) | ((p.kind == CSP_V) & (need == p.x))
+}
+
+fn sound_screening(p: Plan, t: Tally, c: Screening) -> bool
+    ensures { λ r. ⌜ r ≡ soundScreening p t c ⌝ }
+{
+    sound_need(p, c.need)
+        & (c.run < c.need)
+        & (c.run <= c.screened)
+        & ((c.screened as u64) + counted(t.owed) <= (t.last as u64))
+        & (c.run <= c.unrecalled)
+        & (c.unrecalled <= t.conforming)
+}
+
+fn sound_level(p: Plan, level: u32) -> bool
+    ensures { λ r. ⌜ r ≡ soundLevel p level ⌝ }
+{
+    picked(p.kind == CSP_T, level <= 2, level == 0)
+}
+
+// L, of any n and level.
+pub fn block_length(p: Plan, level: u32) -> u64
+    ensures { λ r. ⌜ r ≡ blockLength p level ⌝ }
+{
+    let n = p.n as u64;
+    if level == 0 {
+        return n;
+    }
+    if level == 1 {
+        return 2 * n;
+    }
+    4 * n
+}
+
+// The place after this one, counted round a block.
+pub fn next_place(len: u64, at: u32) -> u64
+    ensures { λ r. ⌜ r ≡ nextPlace len at ⌝ }
+{
+    let next = (at as u64) + 1;
+    if next == len { 0 } else { next }
+}
+
+fn sound_places(len: u64, owed: bool, m: Sampling) -> bool
+    ensures { λ r. ⌜ r ≡ soundPlaces len owed m ⌝ }
+{
+    ((m.place as u64) < len)
+        & ((m.chosen as u64) < len)
+        & (!owed | (next_place(len, m.chosen) == (m.place as u64)))
+}
+
+fn sound_row(p: Plan, m: Sampling) -> bool
+    ensures { λ r. ⌜ r ≡ soundRow p m ⌝ }
+{
+    picked(
+        (p.kind == CSP_T) & (m.level < 2),
+        m.row < p.i,
+        picked(p.kind == CSP_V, m.row <= p.i, m.row == 0),
+    )
+}
+
+fn sound_watch(p: Plan, m: Sampling) -> bool
+    ensures { λ r. ⌜ r ≡ soundWatch p m ⌝ }
+{
+    picked(
+        (p.kind == CSP_2) & m.watch,
+        m.watched < p.i,
+        !m.watch & (m.watched == 0),
+    )
+}
+
+fn sound_sampling(p: Plan, t: Tally, m: Sampling) -> bool
+    ensures { λ r. ⌜ r ≡ soundSampling p t m ⌝ }
+{
+    sound_level(p, m.level)
+        & sound_places(block_length(p, m.level), t.owed, m)
+        & sound_row(p, m)
+        & sound_watch(p, m)
+}
+
+fn sound_phase(p: Plan, t: Tally, phase: Phase) -> bool
+    ensures { λ r. ⌜ r ≡ soundPhase p t phase ⌝ }
+{
+    match phase {
+        Phase::Screen(c) => sound_screening(p, t, c),
+        Phase::Sample(m) => sound_sampling(p, t, m),
+    }
+}
+
+fn sound_numbers(room: u32, n: Numbers) -> bool
+    ensures { λ r. ⌜ r ≡ soundNumbers room n ⌝ }
+{
+    let next = n.next as u64;
+    let full = (n.oldest as u64) + (room as u64);
+    (1 <= n.told)
+        & (n.told <= n.oldest)
+        & (n.oldest <= n.next)
+        & (2 <= n.next)
+        & (n.next <= 8000001)
+        & (next <= full)
+        & ((n.oldest == n.told) | (next == full))
+}
+
+fn sound_silence(q: Silence, n: Numbers) -> bool
+    ensures { λ r. ⌜ r ≡ soundSilence q n ⌝ }
+{
+    (q.ticks as u64) + 2 <= (n.next as u64)
+}
+
+// Is the record sound?
+pub fn is_sound(s: Station) -> bool
+    ensures { λ r. ⌜ r ≡ sound s ⌝ }
+{
+    let p = s.plan;
+    let stream = s.stream;
+    let tally = stream.tally;
+    let phase = stream.phase;
+    let silence = stream.silence;
+    let n = s.numbers;
+    in_range(p)
+        & sound_tally(p, tally)
+        & sound_phase(p, tally, phase)
+        & sound_numbers(s.room, n)
+        & sound_silence(silence, n)
+}
