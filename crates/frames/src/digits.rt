@@ -1,11 +1,31 @@
 // Upper-case hex digits, read and printed.
-use crate::weights::NONE;
-use crate::weights::weight;
 ghost use mathlib.Core.Path.{_≡_};
-ghost use Prim.Native.Nat.{_+_, _≤_};
+ghost use Prim.Native.Nat.{_+_, _≤_, _^_};
 ghost use lib.ListN.{length};
 ghost use Rattle.rules.specs.Frames.{glyph, twoDigits, eightDigits, hex};
-ghost use Rattle.frames.specs.Weights.{sum, limited};
+ghost use Rattle.frames.specs.Weights.{weight, sum, limited};
+
+// What a byte that is no digit weighs: more than any eight digits.
+pub const NONE: u64 = 4294967296;
+
+fn weight(b: u8) -> u64
+    ensures { λ r. ⌜ (r ≡ weight b) × (r ≤ 2 ^ 32) ⌝ }
+{
+    let v = b as u64;
+    if v < 48 {
+        return NONE;
+    }
+    if v < 58 {
+        return v - 48;
+    }
+    if v < 65 {
+        return NONE;
+    }
+    if v < 71 {
+        return v - 55;
+    }
+    NONE
+}
 
 // Two and eight digits from an index on, summed with no test between them.
 fn two(line: &[u8], from: usize) -> u64

@@ -2,8 +2,10 @@
 mod digits;
 mod printing;
 mod reading;
-mod weights;
+mod session;
 
 pub use printing::answer_line;
 pub use printing::answer_values;
 pub use reading::read_line;
+pub use session::new_session;
+pub use session::step;

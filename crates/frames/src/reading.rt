@@ -1,6 +1,6 @@
 // The frame that a line is.
 use crate::digits;
-use crate::weights::NONE;
+use crate::digits::NONE;
 use rules::Call;
 use rules::Frame;
 use rules::Plan;
