@@ -9,7 +9,7 @@ use rules::Silence;
 use rules::Station;
 use rules::Tally;
 ghost use mathlib.Core.Path.{_≡_};
-ghost use Prim.Native.Nat.{_≤_};
+ghost use Prim.Native.Nat.{_+_, _≤_};
 ghost use Rattle.rules.specs.Tests.{pick, within};
 ghost use Rattle.rules.specs.Plan.{inRange, unitLimit, roomInRange};
 ghost use Rattle.rules.specs.Sampling.{blockLength, nextPlace};
@@ -122,7 +122,7 @@ pub fn block_length(p: Plan, level: u32) -> u64
 
 // The place after this one, counted round a block.
 pub fn next_place(len: u64, at: u32) -> u64
-    ensures { λ r. ⌜ r ≡ nextPlace len at ⌝ }
+    ensures { λ r. ⌜ (r ≡ nextPlace len at) × (r ≤ at + 1) ⌝ }
 {
     let next = (at as u64) + 1;
     if next == len { 0 } else { next }

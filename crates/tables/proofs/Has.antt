@@ -3,7 +3,7 @@ use mathlib.Core.Path.{_≡_}
 use mathlib.Core.Bool.{true}
 use Prim.Native.Nat.{ℕ, _≤_, _<_}
 use Rattle.rules.specs.Tables.{column, inV, inIIIA4}
-use Rattle.rules.specs.Facts.{by-test}
+use Rattle.rules.proofs.Facts.{by-test}
 
 module _ (kind letter aql period : ℕ) where
   pub in-v : inV kind letter aql period ≡ true → (1 ≤ letter) × (letter ≤ 11) × (column aql < 8)

@@ -1,0 +1,16 @@
+use borrow.Author.Needs.{needs}
+use Rattle.station.proofs.checks.queue_checks.Statement.{statement}
+use Rattle.station.proofs.checks.queue_checks.Tie as tie
+
+returns : tie.Need-returns
+returns c = cc
+
+pub queue-checks-spec : {M : Type 1} → statement M
+queue-checks-spec =
+    tie.close
+    (tie.spec
+    (λ c κs. search needs)
+    (λ c κs. search needs)
+    (λ c κs. search needs)
+    (λ c κs. search needs)
+    returns)

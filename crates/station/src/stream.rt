@@ -1,0 +1,310 @@
+// What each call makes of the stream (document 01, "Missed units and silence" and the sections before it).
+use crate::sampling::arrived_sampling;
+use crate::sampling::sampled_bad;
+use crate::sampling::sampled_good;
+use crate::screening::after_find;
+use crate::screening::restart_raised;
+use crate::screening::screened_bad;
+use crate::screening::screened_good;
+use crate::screening::start_screening;
+use rules::Arrived;
+use rules::Event;
+use rules::Kind;
+use rules::Moved;
+use rules::Phase;
+use rules::Plan;
+use rules::Raised;
+use rules::Ruled;
+use rules::Sampling;
+use rules::Screening;
+use rules::Silence;
+use rules::Stream;
+use rules::Tally;
+ghost use mathlib.Core.Path.{_≡_};
+ghost use mathlib.Core.Bool.{true, false};
+ghost use Prim.Native.Nat.{_+_, _≤_, _<_};
+ghost use Rattle.rules.specs.Stream.{freshStream, missedTally, jumped, arrived, arrivedTally, arrivedStream, handled, unitRule, resultPhase, resultTally, resultMoved, resultRule, withPhase, interruptRule, findRule, withSilence, tickRule};
+ghost use Rattle.rules.specs.Plan.{unitLimit};
+ghost use Rattle.rules.proofs.Facts.{PlanFacts};
+ghost use Rattle.station.specs.Fit.{Findable, Countable, Placed, StreamFit};
+
+pub fn fresh_stream(p: Plan, seed: u32) -> Stream
+    ensures { λ r. ⌜ r ≡ freshStream p seed ⌝ }
+{
+    Stream {
+        phase: start_screening(p.i),
+        tally: Tally {
+            conforming: 0,
+            defective: 0,
+            passed: 0,
+            missed: 0,
+            owed: false,
+            last: 0,
+        },
+        silence: Silence {
+            ticks: 0,
+            heard: false,
+        },
+        generator: seed,
+    }
+}
+
+fn missed_tally(k: u32, t: Tally) -> Tally
+    requires { ⌜ (t .last < k) × (k ≤ 1000000) × (t .missed ≤ 1000000) ⌝ }
+    ensures { λ r. ⌜ r ≡ missedTally k t ⌝ }
+{
+    let mut missed = t;
+    missed.missed = t.missed + (k - (t.last + 1));
+    missed
+}
+
+// The units between the last and k are missed.
+fn jump(p: Plan, k: u32, s: Stream) -> Ruled
+    requires { ⌜ (s .tally .last < k) × (k ≤ 1000000) × (s .tally .missed ≤ 1000000) ⌝ }
+    ensures { λ r. ⌜ r ≡ jumped p k s ⌝ }
+{
+    let t = s.tally;
+    let first = t.last + 1;
+    if first < k {
+        let phase = s.phase;
+        let cause = Event {
+            kind: Kind::Missed,
+            unit: first,
+            value: k - first,
+        };
+        let silence = s.silence;
+        return Ruled {
+            stream: Stream {
+                phase: start_screening(p.i),
+                tally: missed_tally(k, t),
+                silence,
+                generator: s.generator,
+            },
+            raised: restart_raised(cause, k, phase),
+        };
+    }
+    Ruled {
+        stream: s,
+        raised: Raised::None,
+    }
+}
+
+// Every unit is inspected in screening, and the one at the chosen place in sampling.
+fn arrive(p: Plan, s: u32, phase: Phase) -> Arrived
+    requires { ⌜ PlanFacts p × Placed phase ⌝ }
+    ensures { λ r. ⌜ r ≡ arrived p s phase ⌝ }
+{
+    match phase {
+        Phase::Screen(c) => Arrived {
+            phase: Phase::Screen(c),
+            generator: s,
+            inspect: true,
+        },
+        Phase::Sample(m) => arrived_sampling(record::block_length(p, m.level) as u32, s, m),
+    }
+}
+
+fn arrived_tally(k: u32, inspect: bool, t: Tally) -> Tally
+    requires { ⌜ t .passed ≤ 1000000 ⌝ }
+    ensures { λ r. ⌜ r ≡ arrivedTally k inspect t ⌝ }
+{
+    let mut arrived = t;
+    arrived.owed = inspect;
+    arrived.last = k;
+    if inspect {
+        return arrived;
+    }
+    arrived.passed = t.passed + 1;
+    arrived
+}
+
+fn arrived_stream(k: u32, a: Arrived, s: Stream) -> Stream
+    requires { ⌜ s .tally .passed ≤ 1000000 ⌝ }
+    ensures { λ r. ⌜ r ≡ arrivedStream k a s ⌝ }
+{
+    let phase = a.phase;
+    let t = s.tally;
+    let silence = s.silence;
+    let tally = arrived_tally(k, a.inspect, t);
+    Stream {
+        phase,
+        tally,
+        silence: Silence {
+            ticks: silence.ticks,
+            heard: true,
+        },
+        generator: a.generator,
+    }
+}
+
+// What was missed, then unit k.
+fn handle(p: Plan, k: u32, j: Ruled) -> Ruled
+    requires { ⌜ PlanFacts p × Placed (j .stream .phase) × (j .stream .tally .passed ≤ 1000000) ⌝ }
+    ensures { λ r. ⌜ r ≡ handled p k j ⌝ }
+{
+    let s = j.stream;
+    let phase = s.phase;
+    let raised = j.raised;
+    let a = arrive(p, s.generator, phase);
+    Ruled {
+        stream: arrived_stream(k, a, s),
+        raised,
+    }
+}
+
+pub fn unit_rule(p: Plan, k: u32, s: Stream) -> Ruled
+    requires { ⌜ StreamFit p s × (s .tally .last < k) × (k ≤ unitLimit p) ⌝ }
+    ensures { λ r. ⌜ r ≡ unitRule p k s ⌝ }
+{
+    handle(p, k, jump(p, k, s))
+}
+
+fn screened_result(p: Plan, unit: u32, r: u32, c: Screening) -> Moved
+    requires { ⌜ Countable (Phase.Screen c) ⌝ }
+    ensures { λ q. ⌜ q ≡ resultPhase p unit r (Phase.Screen c) ⌝ }
+{
+    if r == 0 {
+        screened_good(unit, c)
+    } else {
+        screened_bad(p, unit, c)
+    }
+}
+
+fn sampled_result(p: Plan, unit: u32, r: u32, m: Sampling) -> Moved
+    requires { ⌜ Countable (Phase.Sample m) ⌝ }
+    ensures { λ q. ⌜ q ≡ resultPhase p unit r (Phase.Sample m) ⌝ }
+{
+    if r == 0 {
+        sampled_good(p, unit, m)
+    } else {
+        sampled_bad(p, unit, m)
+    }
+}
+
+fn result_phase(p: Plan, unit: u32, r: u32, phase: Phase) -> Moved
+    requires { ⌜ Countable phase ⌝ }
+    ensures { λ q. ⌜ q ≡ resultPhase p unit r phase ⌝ }
+{
+    match phase {
+        Phase::Screen(c) => screened_result(p, unit, r, c),
+        Phase::Sample(m) => sampled_result(p, unit, r, m),
+    }
+}
+
+fn result_tally(r: u32, t: Tally) -> Tally
+    requires { ⌜ (t .conforming ≤ 1000000) × (t .defective ≤ 1000000) ⌝ }
+    ensures { λ q. ⌜ q ≡ resultTally r t ⌝ }
+{
+    let mut judged = t;
+    judged.owed = false;
+    if r == 0 {
+        judged.conforming = t.conforming + 1;
+        return judged;
+    }
+    judged.defective = t.defective + 1;
+    judged
+}
+
+pub fn result_rule(p: Plan, r: u32, s: Stream) -> Ruled
+    requires { ⌜ StreamFit p s × (s .tally .owed ≡ true) ⌝ }
+    ensures { λ q. ⌜ q ≡ resultRule p r s ⌝ }
+{
+    let t = s.tally;
+    let phase = s.phase;
+    let silence = s.silence;
+    let m = result_phase(p, t.last, r, phase);
+    let moved = m.phase;
+    let raised = m.raised;
+    Ruled {
+        stream: Stream {
+            phase: moved,
+            tally: result_tally(r, t),
+            silence,
+            generator: s.generator,
+        },
+        raised,
+    }
+}
+
+fn with_phase(phase: Phase, s: Stream) -> Stream
+    ensures { λ r. ⌜ r ≡ withPhase phase s ⌝ }
+{
+    let tally = s.tally;
+    let silence = s.silence;
+    Stream {
+        phase,
+        tally,
+        silence,
+        generator: s.generator,
+    }
+}
+
+pub fn interrupt_rule(p: Plan, s: Stream) -> Ruled
+    ensures { λ r. ⌜ r ≡ interruptRule p s ⌝ }
+{
+    let phase = s.phase;
+    let last = s.tally.last;
+    let cause = Event {
+        kind: Kind::Interrupt,
+        unit: last,
+        value: 0,
+    };
+    Ruled {
+        stream: with_phase(start_screening(p.i), s),
+        raised: restart_raised(cause, last, phase),
+    }
+}
+
+pub fn find_rule(s: Stream) -> Ruled
+    requires { ⌜ Findable (s .phase) ⌝ }
+    ensures { λ r. ⌜ r ≡ findRule s ⌝ }
+{
+    let phase = s.phase;
+    let last = s.tally.last;
+    Ruled {
+        stream: with_phase(after_find(phase), s),
+        raised: Raised::One(Event {
+            kind: Kind::Check,
+            unit: last,
+            value: 0,
+        }),
+    }
+}
+
+fn with_silence(ticks: u32, s: Stream) -> Stream
+    ensures { λ r. ⌜ r ≡ withSilence (record { ticks = ticks; heard = false }) s ⌝ }
+{
+    let tally = s.tally;
+    let phase = s.phase;
+    Stream {
+        phase,
+        tally,
+        silence: Silence {
+            ticks,
+            heard: false,
+        },
+        generator: s.generator,
+    }
+}
+
+pub fn tick_rule(s: Stream) -> Ruled
+    requires { ⌜ s .silence .ticks ≤ 8000000 ⌝ }
+    ensures { λ r. ⌜ r ≡ tickRule s ⌝ }
+{
+    if s.silence.heard {
+        return Ruled {
+            stream: with_silence(0, s),
+            raised: Raised::None,
+        };
+    }
+    let ticks = s.silence.ticks + 1;
+    let last = s.tally.last;
+    Ruled {
+        stream: with_silence(ticks, s),
+        raised: Raised::One(Event {
+            kind: Kind::Silent,
+            unit: last,
+            value: ticks,
+        }),
+    }
+}

@@ -1,0 +1,57 @@
+"""Seeded random sessions: the model, the recorder and the second program, byte for byte."""
+
+from collections import Counter
+
+import programs
+from drive import Driver
+from parallel import in_parallel
+from reached import GOALS
+
+PORTION = 20
+
+
+def check(report, pair, options):
+    jobs = {name: programs.recorder_job(name) for name in pair}
+    reached, frames = Counter(), 0
+    portions = [(jobs, options.seed, start, min(PORTION, options.count - start)) for start in range(0, options.count, PORTION)]
+    for sent, counts, agreed, differing in in_parallel(run_portion, portions):
+        frames += sent
+        reached.update(counts)
+        report.passed += agreed
+        for name, text, outputs in differing:
+            report.agreed(name, text, outputs)
+    report.reached(reached, GOALS)
+    return f'{options.count:,} sessions, {frames:,} frames' + listing(reached)
+
+
+def listing(reached):
+    """What was reached, a few to a line."""
+    entries = [f'{goal} {reached[goal]:,}' for goal in GOALS]
+    lines, line = [], ''
+    for entry in entries:
+        if len(line) + len(entry) > 110:
+            lines.append(line)
+            line = ''
+        line += (', ' if line else '') + entry
+    return ''.join(f'\n    {line}' for line in [*lines, line])
+
+
+def run_portion(portion):
+    """Some sessions, in a process of their own: frames sent, goals reached, how many agreed, and those that did not."""
+    jobs, seed, start, count = portion
+    frames, reached, agreed, differing = 0, Counter(), 0, []
+    for at in range(start, start + count):
+        driver, text, outputs = run_session(jobs, f'{seed}-{at}')
+        frames += len(driver.lines)
+        reached.update(driver.watcher.count)
+        if len(set(outputs.values())) == 1:
+            agreed += 1
+        else:
+            differing.append((f'random-{seed}-{at}', text, outputs))
+    return frames, reached, agreed, differing
+
+
+def run_session(jobs, name):
+    driver = Driver(name)
+    text = driver.drive()
+    return driver, text, {'model': driver.expected_for(text), **programs.outputs(jobs, text)}

@@ -1,0 +1,185 @@
+"""Random sessions that know the state: the model runs beside them, so that the rare turns of every plan are reached."""
+
+import random
+
+from model import CSP_F, CSP_T, CSP_V, SCREENING, TABLE_V_AQL, UNIT_LIMIT, refused, written
+from reached import Watcher
+from script import Script, words
+
+# How often each call comes when no result is owed. A line of work is mostly units; each profile leans one way.
+CALLS = ('unit', 'jump', 'interrupt', 'find', 'tick', 'take', 'refused', 'ill_formed')
+PROFILES = {
+    'work': (80, 1, 1, 2, 4, 10, 1, 1),
+    'journal': (40, 3, 3, 3, 10, 40, 1, 1),
+    'quiet': (20, 2, 2, 2, 60, 4, 1, 1),
+    'rough': (50, 10, 10, 15, 5, 10, 2, 2),
+    'hostile': (40, 3, 3, 5, 5, 10, 20, 20),
+}
+SEEDS = (0, 1, 2 ** 31, 2 ** 32 - 1)
+ODD_NUMBERS = (0, 1, 2, 3, 7, 8, 9, 200, 201, 10_000, UNIT_LIMIT, UNIT_LIMIT + 1, 2 ** 31, 2 ** 32 - 1)
+
+
+class Driver(Script):
+    """One random session."""
+
+    def __init__(self, seed):
+        super().__init__()
+        self.random = random.Random(seed)
+        self.watcher = Watcher()
+        self.weights = PROFILES[self.random.choice(list(PROFILES))]
+        self.bad_share = 0.0
+
+    def line(self, text):
+        before = self.watcher.view(self.station)
+        answer = super().line(text)
+        self.watcher.observe(text, before, answer, self.station)
+        return answer
+
+    def chance(self, share):
+        return self.random.random() < share
+
+    # ---- The whole
+
+    def drive(self):
+        """The session's input."""
+        self.prelude()
+        self.open_somehow()
+        if self.chance(0.1):
+            self.near_the_limit()
+        for _ in range(self.random.randrange(100, 400)):
+            self.turn()
+            if self.station.last == self.limit() and self.chance(0.05):
+                break
+        if self.chance(0.5):
+            self.take(12)
+        return self.text() + self.ending()
+
+    def expected_for(self, text):
+        """The model's answers, the one to a last line without line feed included."""
+        return self.expected() + (b'' if text.endswith(b'\n') else written(refused(9)))
+
+    def ending(self):
+        return self.random.choice((b'07', b'0', b'02 00000001', b'\r')) if self.chance(0.05) else b''
+
+    def prelude(self):
+        """Some sessions try calls and refused opens before they open."""
+        while self.chance(0.3):
+            self.random.choice((self.ill_formed, self.early_call, self.refused_open, self.refused_table))()
+
+    def turn(self):
+        if self.chance(0.02):
+            self.bad_share = self.random.choice((0.0, 0.0, 0.05, 0.3, 0.8))
+        if self.station.owed and self.chance(0.9):
+            self.result(1 if self.chance(max(self.bad_share, self.luck())) else 0)
+        elif self.recallable() and self.chance(0.5):
+            self.find()
+        else:
+            getattr(self, 'do_' + self.random.choices(CALLS, self.weights)[0])()
+
+    def luck(self):
+        """A defect where one seldom falls by itself: at a higher level, after i good samples under CSP-V, under need x."""
+        st = self.station
+        rare = st.level or (st.type == CSP_V and st.row == st.i) or (st.phase == SCREENING and st.need < st.i)
+        return 0.2 if rare else 0.0
+
+    def recallable(self):
+        """A find under need x seldom comes by itself."""
+        st = self.station
+        return not st.owed and st.unrecalled and st.need < st.i
+
+    # ---- Opens
+
+    def seed(self):
+        return self.random.choice(SEEDS) if self.chance(0.2) else self.random.getrandbits(32)
+
+    def open_somehow(self):
+        if self.chance(0.15):
+            self.open_from_table()
+        else:
+            self.open_plan()
+
+    def open_plan(self):
+        type = self.random.randrange(1, 6)
+        n = self.random.choice((2, 2, 2, 3, 4, 5, 7, self.random.randrange(2, 201)))
+        i = self.random.choice((1, 2, 2, 3, 3, 4, 6, self.random.randrange(1, 40)))
+        S = 0 if type == CSP_F else i + self.random.randrange(12)
+        x = self.random.randrange(1, i + 1) if type == CSP_V else 0
+        N = self.random.choice((self.random.randrange(1, 150), UNIT_LIMIT)) if type == CSP_F else 0
+        self.open(type, n, i, S, x, N, self.seed())
+
+    def open_from_table(self):
+        seed = None if self.chance(0.5) else self.seed()
+        if self.chance(0.5):
+            self.table(CSP_T, self.random.randrange(1, 12), self.random.choice(TABLE_V_AQL[-3:]), 0, seed)
+        else:
+            self.table(CSP_F, self.random.randrange(1, 9), 40, self.random.randrange(1, 80_000), seed)
+
+    def refused_open(self):
+        plan = [self.random.choice(ODD_NUMBERS) for _ in range(7)]
+        plan[1] = 201
+        self.line(words(1, *plan))
+
+    def refused_table(self):
+        self.table(*self.random.choices(ODD_NUMBERS, k=3), N=UNIT_LIMIT + 1)
+
+    def early_call(self):
+        self.line(self.random.choice((words(2, 1), words(3, 0), words(3, 2), words(4), words(5), words(6), words(7))))
+
+    # ---- Calls on an open station
+
+    def limit(self):
+        return self.station.N or UNIT_LIMIT
+
+    def near_the_limit(self):
+        """A jump to the last few unit numbers, so that a session reaches the end."""
+        self.unit(max(1, self.limit() - self.random.randrange(30)))
+
+    def do_unit(self):
+        self.unit()
+
+    def do_jump(self):
+        self.unit(self.station.last + self.random.choice((2, 2, 3, 10, 1000)))
+
+    def do_interrupt(self):
+        self.interrupt()
+
+    def do_find(self):
+        self.find()
+
+    def do_tick(self):
+        self.tick(self.random.choice((1, 1, 2, 5)))
+
+    def do_take(self):
+        self.take(self.random.choice((1, 1, 2, 10)))
+
+    def do_refused(self):
+        """Calls that a sound line would not send, though the state may allow some."""
+        self.random.choice((
+            lambda: self.unit(self.station.last),
+            lambda: self.unit(self.random.choice(ODD_NUMBERS[:7])),
+            lambda: self.unit(self.limit() + 1),
+            lambda: self.unit(2 ** 32 - 1),
+            lambda: self.result(self.random.choice((0, 1, 2, 2 ** 31, 2 ** 32 - 1))),
+            self.open_plan, self.open_from_table, self.refused_open, self.refused_table,
+        ))()
+
+    def do_ill_formed(self):
+        self.ill_formed()
+
+    # ---- Ill-formed lines
+
+    def ill_formed(self):
+        """A good line with one thing wrong in it, or a line of bytes."""
+        plan, table = words(1, 1, 2, 3, 4, 0, 0, 0xABCDEF), words(8, 4, 1, 400, 0)
+        good = self.random.choice((plan, table, words(2, 0xA1), words(3, 0xF), words(7)))
+        at = self.random.randrange(len(good) + 1)
+        self.line(self.random.choice((
+            good.lower() + b'a',
+            good[:at] + b' ' + good[at:],
+            good[:at] + b'\t' + good[at + 1:],
+            good + self.random.choice((b'\r', b' ', b'0', b' 00000000 00000000 00000000')),
+            good + b' ' * self.random.choice((79, 80, 81, 500)),
+            good[:at].rstrip() + b'-',
+            bytes(self.random.choice(range(11, 256)) for _ in range(self.random.randrange(100))),
+            b'',
+        )))

@@ -1,0 +1,131 @@
+"""Each clause of "A sound record" at its edge: the last record that it lets pass and the first that it does not.
+
+The two differ from one plain record in the named fields alone, so that no other clause can speak for the one at hand.
+"""
+
+import model
+from model import CSP_1, CSP_2, CSP_F, CSP_T, CSP_V, EVENT_LIMIT, SAMPLING, SCREENING, UNIT_LIMIT, Station
+
+ALL = (CSP_1, CSP_2, CSP_F, CSP_T, CSP_V)
+TALLIES = dict(conforming=7, defective=2, passed=3, missed=4, owed=0, last=16)
+NO_UNITS = dict.fromkeys(TALLIES, 0)
+OWED = dict(owed=1, last=17)
+
+
+def plain(type, phase):
+    """A sound record in the middle of everything."""
+    fields = dict(type=type, n=4, i=5, S=9, C=8, s=1, phase=phase, silent=3, told=16, oldest=16, next=20, **TALLIES)
+    if type == CSP_F:
+        fields.update(S=0, N=50)
+    if type == CSP_V:
+        fields.update(x=3)
+    if phase == SCREENING:
+        fields.update(need=5, run=2, screened=6, unrecalled=4)
+    else:
+        fields.update(place=2, chosen=1)
+    if phase == SAMPLING and type in (CSP_T, CSP_V):
+        fields.update(row=3)
+    if phase == SAMPLING and type == CSP_2:
+        fields.update(watch=1, watched=2)
+    return fields
+
+
+def but(*types):
+    return [type for type in ALL if type not in types]
+
+
+def clauses():
+    """Clause, types of plan, phase, the change that is still sound, and the one that is not."""
+    yield from plan_clauses()
+    yield from tally_clauses()
+    yield from screening_clauses()
+    yield from sampling_clauses()
+    yield from number_clauses()
+
+
+def plan_clauses():
+    yield 'type from 1', [CSP_1], SCREENING, {}, dict(type=0)
+    yield 'type to 5', [CSP_1], SCREENING, {}, dict(type=6)
+    yield 'n from 2', ALL, SCREENING, dict(n=2), dict(n=1)
+    yield 'n to 200', ALL, SCREENING, dict(n=200), dict(n=201)
+    yield 'i from 1', [CSP_1], SAMPLING, dict(i=1), dict(i=0)
+    yield 'i to 10,000', [CSP_1, CSP_2, CSP_T, CSP_V], SAMPLING, dict(i=10_000, S=100_000), dict(i=10_001, S=100_000)
+    yield 'i to 10,000 under CSP-F', [CSP_F], SAMPLING, dict(i=10_000), dict(i=10_001)
+    yield 'S from i', but(CSP_F), SAMPLING, dict(S=5), dict(S=4)
+    yield 'S to 100,000', but(CSP_F), SAMPLING, dict(S=100_000), dict(S=100_001)
+    yield 'S not 0', but(CSP_F), SAMPLING, dict(S=9), dict(S=0)
+    yield 'S 0 for CSP-F', [CSP_F], SAMPLING, {}, dict(S=9)
+    yield 'x from 1', [CSP_V], SAMPLING, dict(x=1), dict(x=0)
+    yield 'x to i', [CSP_V], SAMPLING, dict(x=5), dict(x=6)
+    yield 'x 0 but for CSP-V', but(CSP_V), SAMPLING, {}, dict(x=1)
+    yield 'N from 1', [CSP_F], SAMPLING, dict(N=1, **NO_UNITS), dict(N=0, **NO_UNITS)
+    yield 'N to 1,000,000', [CSP_F], SAMPLING, dict(N=1_000_000), dict(N=1_000_001)
+    yield 'N 0 but for CSP-F', but(CSP_F), SAMPLING, {}, dict(N=50)
+
+
+def tally_clauses():
+    for field in ('conforming', 'defective', 'passed', 'missed', 'owed'):
+        yield f'{field} counted in last', ALL, SCREENING, {}, {field: TALLIES[field] + 1}
+    yield 'last no more than the tallies', ALL, SCREENING, {}, dict(last=17)
+    most = UNIT_LIMIT - 12
+    yield 'last to 1,000,000', but(CSP_F), SAMPLING, dict(last=UNIT_LIMIT, missed=most), dict(last=UNIT_LIMIT + 1, missed=most + 1)
+    yield 'last to N', [CSP_F], SAMPLING, dict(N=16), dict(N=15)
+
+
+def screening_clauses():
+    yield 'need is i', but(CSP_V), SCREENING, {}, dict(need=6)
+    yield 'need is i, not less', but(CSP_V), SCREENING, {}, dict(need=4)
+    yield 'need is i or x', [CSP_V], SCREENING, dict(need=3), dict(need=4)
+    yield 'run below need', ALL, SCREENING, dict(run=4, unrecalled=5), dict(run=5, unrecalled=5)
+    yield 'run below need x', [CSP_V], SCREENING, dict(need=3), dict(need=3, run=3)
+    yield 'run to screened', ALL, SCREENING, dict(screened=2), dict(screened=1)
+    yield 'screened to last', ALL, SCREENING, dict(screened=16), dict(screened=17)
+    yield 'screened to last less owed', ALL, SCREENING, dict(screened=16, **OWED), dict(screened=17, **OWED)
+    yield 'run to unrecalled', ALL, SCREENING, dict(unrecalled=2), dict(unrecalled=1)
+    yield 'unrecalled to conforming', ALL, SCREENING, dict(unrecalled=7), dict(unrecalled=8)
+
+
+def sampling_clauses():
+    yield 'level to 2', [CSP_T], SAMPLING, dict(level=2, row=0), dict(level=3, row=0)
+    yield 'level 0 but for CSP-T', but(CSP_T), SAMPLING, {}, dict(level=1)
+    for field in ('place', 'chosen'):
+        yield f'{field} below n', ALL, SAMPLING, {field: 3}, {field: 4}
+        yield f'{field} below 2n', [CSP_T], SAMPLING, {'level': 1, field: 7}, {'level': 1, field: 8}
+        yield f'{field} below 4n', [CSP_T], SAMPLING, {'level': 2, 'row': 0, field: 15}, {'level': 2, 'row': 0, field: 16}
+    for place in (0, 1, 3):
+        yield f'owed, not {place} after 1', ALL, SAMPLING, OWED, dict(place=place, **OWED)
+    yield 'owed, counted round', ALL, SAMPLING, dict(chosen=3, place=0, **OWED), dict(chosen=3, place=3, **OWED)
+    for level in (0, 1):
+        yield f'row below i at level {level}', [CSP_T], SAMPLING, dict(level=level, row=4), dict(level=level, row=5)
+    yield 'row 0 at level 2', [CSP_T], SAMPLING, dict(level=2, row=0), dict(level=2, row=1)
+    yield 'row to i under CSP-V', [CSP_V], SAMPLING, dict(row=5), dict(row=6)
+    yield 'row 0 under other plans', but(CSP_T, CSP_V), SAMPLING, {}, dict(row=1)
+    yield 'watch count below i', [CSP_2], SAMPLING, dict(watched=4), dict(watched=5)
+    yield 'no count without a watch', [CSP_2], SAMPLING, dict(watch=0, watched=0), dict(watch=0, watched=1)
+    yield 'no count under other plans', but(CSP_2), SAMPLING, {}, dict(watched=1)
+    yield 'no watch under other plans', but(CSP_2), SAMPLING, {}, dict(watch=1)
+
+
+def number_clauses():
+    last, past = (dict.fromkeys(('told', 'oldest', 'next'), EVENT_LIMIT + 1 + over) for over in (0, 1))
+    yield 'told from 1', ALL, SAMPLING, dict(told=1, oldest=2, next=10), dict(told=0, oldest=2, next=10)
+    yield 'told to oldest', ALL, SAMPLING, {}, dict(told=17)
+    yield 'oldest to next', ALL, SAMPLING, dict(told=20, oldest=20), dict(told=21, oldest=21)
+    yield 'next from 2', ALL, SAMPLING, dict(told=1, oldest=1, next=2, silent=0), dict(told=1, oldest=1, next=1, silent=0)
+    yield 'next to 8,000,001', ALL, SAMPLING, last, past
+    yield 'held to C', ALL, SAMPLING, dict(told=12, oldest=12), dict(told=11, oldest=11)
+    yield 'a gap in a full queue alone', ALL, SAMPLING, dict(told=11, oldest=12), dict(told=12, oldest=13)
+    yield 'silent to next less 2', ALL, SAMPLING, dict(silent=18), dict(silent=19)
+
+
+def station(fields):
+    return Station(fields.get(field, 0) for field in model.FIELDS)
+
+
+def edges():
+    """Clause, the sound record and the unsound one."""
+    for clause, types, phase, kept, broken in clauses():
+        for type in types:
+            sound, unsound = (station({**plain(type, phase), **change}) for change in (kept, broken))
+            assert model.sound(sound) and not model.sound(unsound), clause
+            yield clause, sound, unsound

@@ -1,0 +1,241 @@
+"""Requests for the probe: one call on one record and one memory, as words. Each comes with the name of what it tries."""
+
+import struct
+
+import model
+from model import EVENT_LIMIT, LEAST_ROOM, MOST_ROOM, SAMPLING, SCREENING, WORD, Station
+from records import Records
+
+OPEN, UNIT, RESULT, INTERRUPT, FIND, TICK, TAKE = range(1, 8)
+CALLS = {OPEN: 'open', UNIT: 'unit', RESULT: 'result', INTERRUPT: 'interrupt', FIND: 'check find', TICK: 'tick', TAKE: 'take'}
+ON_A_RECORD = range(UNIT, TAKE + 1)
+# Document 01's checks of each call, in order.
+CHECKS = {
+    OPEN: (1, 3), UNIT: (1, 2, 10, 4, 6, 7), RESULT: (1, 2, 10, 9, 5), INTERRUPT: (1, 2, 10, 4), FIND: (1, 2, 10, 4, 8),
+    TICK: (1, 2, 10), TAKE: (1, 2),
+}
+SMALL_ROOMS = (8, 9, 10, 11, 12, 16)
+ROOMS = (*SMALL_ROOMS, 31, 64, 100, 255, 256, 1000, 2048, 4095, 4096)
+SMALL_PLAN = [model.CSP_1, 2, 3, 4, 0, 0, 0]
+MOST_WORDS = 12_400
+
+
+class Request:
+    """A call with its arguments, the record and the memory."""
+
+    def __init__(self, about, call, arguments, st, queue):
+        self.about, self.call, self.arguments, self.st, self.queue = about, call, list(arguments), st, queue
+
+    def words(self):
+        return [self.call, *self.arguments, *[0] * (7 - len(self.arguments)), *self.st.words(), *self.queue]
+
+
+def written(words):
+    """Upper-case words of 8 digits, single spaces."""
+    return struct.pack(f'>{len(words)}I', *words).hex(' ', 4).upper().encode()
+
+
+class Probes(Records):
+    def argument(self, call, st):
+        if call == UNIT:
+            limit = model.unit_limit(st)
+            near = (st.last + 1, st.last + 1, st.last + 2, st.last, st.last + 9, limit, limit + 1, 0, self.word())
+            return [self.random.choice(near) % WORD]
+        if call == RESULT:
+            return [self.random.choice((0, 0, 0, 1, 1, 1, 2, WORD - 1, 2 ** 31))]
+        return []
+
+    def request(self, about, call, st, queue):
+        if call == OPEN:
+            return Request(about, OPEN, SMALL_PLAN, Station(), queue)
+        return Request(about, call, self.argument(call, st), st, queue)
+
+    def any_call(self):
+        return self.random.choice(ON_A_RECORD)
+
+    # ---- The kinds of request
+
+    def sound(self, count):
+        """Reached and made-up records in small rooms, every call."""
+        for _ in range(count // 12):
+            room = self.random.choice(SMALL_ROOMS)
+            for st, queue in (*self.reached(room, 1), (self.made_up(room), self.memory(room))):
+                for call in ON_A_RECORD:
+                    yield self.request('sound', call, st, queue)
+
+    def willing(self, count):
+        """Records on which the call can be done, often with the last event numbers next."""
+        for _ in range(count):
+            room = self.random.choice(SMALL_ROOMS)
+            made = self.request('willing', self.any_call(), self.made_up(room), self.memory(room))
+            (self.owing if made.call == RESULT else self.owing_nothing)(made)
+            if made.call == UNIT:
+                made.arguments = [made.st.last + self.random.choice((1, 1, 2, 9))]
+            if made.call == FIND and made.st.phase == SCREENING and made.st.conforming:
+                made.st.unrecalled = max(made.st.unrecalled, 1)
+            if self.random.random() < 0.3:
+                self.last_numbers(made.st)
+            yield made
+
+    def edges(self, clauses):
+        """Every call on the records to both sides of each edge of "A sound record"."""
+        for clause, *both in clauses:
+            for st in both:
+                for call in ON_A_RECORD:
+                    yield self.request(f'edge {clause}', call, st, self.memory(st.C))
+
+    def damaged(self, count):
+        """Every field of a sound record changed, field after field."""
+        for _ in range(count // 20):
+            room = self.random.choice(SMALL_ROOMS)
+            st, queue = self.made_up(room), self.memory(room)
+            for field in self.fields_of(st):
+                yield self.request(f'damaged {field}', self.any_call(), self.with_damage(st, field), queue)
+
+    def chance(self, count):
+        """Records of chance words, mostly with a memory that fits."""
+        for _ in range(count):
+            st = self.any_record()
+            room = self.random.choice((8, 8, 9, 4))
+            if self.random.random() < 0.8:
+                st.C = room
+            yield self.request('chance', self.any_call(), st, self.memory(room))
+
+    def opens(self, count):
+        """Plans in range, with one number off, or with one of chance; the record sent along says nothing to an open."""
+        for _ in range(count):
+            st = self.made_up(8)
+            plan = st.words()[:6]
+            if self.random.random() < 0.6:
+                at = self.random.randrange(6)
+                plan[at] = self.random.choice(((plan[at] + 1) % WORD, (plan[at] - 1) % WORD, self.word()))
+            size = self.random.choice((24, 24, 27, 30, 0, 23, 25, 26, 3 * self.random.randrange(40)))
+            queue = [self.random.getrandbits(32) for _ in range(size)]
+            yield Request('open', OPEN, [*plan, self.word()], self.random.choice((st, Station())), queue)
+
+    def rooms(self, rounds):
+        """Every call in rooms from 8 to 4,096, with queues that are empty, full and overflowing."""
+        for room in ROOMS * rounds:
+            st, queue = self.made_up(room), self.memory(room)
+            for call in CALLS:
+                yield self.request(f'room {room}', call, st, queue)
+
+    def other_rooms(self, count):
+        """Whole entries, but not as many as the station has."""
+        for _ in range(count):
+            room = self.random.choice(SMALL_ROOMS)
+            other = self.random.choice((room - 1, room + 1, 2 * room, 4))
+            yield self.request('another room', self.any_call(), self.made_up(room), self.memory(other))
+
+    def lengths(self, lengths):
+        """Memories of the given numbers of words, with the room that comes nearest."""
+        words = self.memory(MOST_WORDS // 3 + 1)
+        for length in lengths:
+            room = min(max(length // 3, LEAST_ROOM), MOST_ROOM)
+            yield self.request(f'{length} words', self.random.choice(list(CALLS)), self.made_up(room), words[:length])
+
+    def stacked(self, count):
+        """Several checks apply at once: the first in document 01's order is given."""
+        for _ in range(count):
+            call = self.random.choice(list(CALLS))
+            made = self.request('stacked', call, self.made_up(8), self.memory(8))
+            for number, fault in self.faults():
+                if number in CHECKS[call] and self.random.random() < 0.5:
+                    fault(made)
+            yield made
+
+    # ---- What makes each check apply; those that change the record soundly come first
+
+    def faults(self):
+        return (
+            (10, self.no_numbers), (4, self.owing), (5, self.owing_nothing), (8, self.nothing_to_recall), (6, self.low_unit),
+            (7, self.high_unit), (9, self.odd_result), (3, self.bad_plan), (2, self.unsound), (1, self.misfit),
+        )
+
+    def no_numbers(self, made):
+        self.numbers_from(made.st, self.random.choice((EVENT_LIMIT, EVENT_LIMIT + 1)))
+
+    def owing(self, made):
+        st = made.st
+        if st.missed and not st.owed:
+            st.missed -= 1
+            st.owed = 1
+            st.place = (st.chosen + 1) % model.block_length(st) if st.phase == SAMPLING else 0
+            st.screened = min(st.screened, st.last - 1)
+
+    def owing_nothing(self, made):
+        made.st.missed += made.st.owed
+        made.st.owed = 0
+
+    def nothing_to_recall(self, made):
+        if made.st.phase == SCREENING:
+            made.st.run = made.st.unrecalled = 0
+
+    def low_unit(self, made):
+        made.arguments = [self.random.choice((0, made.st.last))]
+
+    def high_unit(self, made):
+        made.arguments = [model.unit_limit(made.st) + 1]
+
+    def odd_result(self, made):
+        made.arguments = [2]
+
+    def bad_plan(self, made):
+        made.arguments[self.random.randrange(6)] = WORD - 1
+
+    def unsound(self, made):
+        made.st.silent = made.st.next - 1
+
+    def misfit(self, made):
+        made.queue = self.random.choice((made.queue[:21], made.queue[:23], [], made.queue + [0, 0, 0]))
+
+
+def applying(made):
+    """Every check of the call that applies, in document 01's order, each looked at by itself."""
+    st, first = made.st, (made.arguments or [0])[0]
+    room = model.room_of(made.queue)
+    applies = {
+        1: room == 0 or (made.call != OPEN and room != st.C),
+        2: not model.sound(st),
+        3: made.call == OPEN and not model.plan_in_range(*made.arguments[:6]),
+        4: st.owed,
+        5: not st.owed,
+        6: first <= st.last,
+        7: first > model.unit_limit(st),
+        8: st.phase != SCREENING or st.unrecalled == 0,
+        9: first not in (0, 1),
+        10: st.next > EVENT_LIMIT - 1,
+    }
+    return [number for number in CHECKS[made.call] if applies[number]]
+
+
+LIMITS = (
+    *(f'next {number:,}' for number in range(EVENT_LIMIT - 2, EVENT_LIMIT + 2)),
+    'last at its limit', 'run one short of need', 'need x', 'screened one short of S', 'screened at S',
+    'row one short of i', 'row at i', 'watch one short of i', 'level 2',
+    'queue empty', 'queue full', 'queue one short of full', 'gap', 'silent at its most',
+)
+
+
+def limits(st):
+    """The limits of document 01 that a sound record stands at."""
+    held = st.next - st.oldest
+    screening, sampling = st.phase == SCREENING, st.phase == SAMPLING
+    at = {
+        f'next {st.next:,}': True,
+        'last at its limit': st.last == model.unit_limit(st),
+        'run one short of need': screening and st.run == st.need - 1,
+        'need x': screening and st.need < st.i,
+        'screened one short of S': screening and st.screened == st.S - 1,
+        'screened at S': screening and st.screened == st.S > 0,
+        'row one short of i': sampling and st.row == st.i - 1,
+        'row at i': sampling and st.row == st.i,
+        'watch one short of i': st.watch and st.watched == st.i - 1,
+        'level 2': st.level == 2,
+        'queue empty': held == 0,
+        'queue full': held == st.C,
+        'queue one short of full': held == st.C - 1,
+        'gap': st.told < st.oldest,
+        'silent at its most': st.silent == st.next - 2,
+    }
+    return [name for name, holds in at.items() if holds]

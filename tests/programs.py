@@ -1,0 +1,153 @@
+"""Finds, builds and runs the two programs; nothing else in tests/ or bench/ knows where they are.
+
+The recorder and the probe are built by `rt check`, for x86-64, and stand under target/bin. They run as the kit
+itself runs a program: under the kit's loader and C library, and on another processor under the kit's emulator.
+The second program is plain C, built for this machine by second/build.
+
+RECORDER_ROOT and SECOND_ROOT name other repositories to take the programs from.
+"""
+
+import os
+import platform
+import shutil
+import subprocess
+from functools import lru_cache
+from pathlib import Path
+
+ROOT = Path(__file__).resolve().parent.parent
+RECORDER_ROOT = Path(os.environ.get('RECORDER_ROOT', ROOT))
+SECOND_ROOT = Path(os.environ.get('SECOND_ROOT', ROOT))
+BUILD = ROOT / 'build'
+
+RECORDER, SECOND, SANITIZED = 'recorder', 'second', 'second-sanitize'
+NAMES = (RECORDER, SECOND, SANITIZED)
+MISTAKES = (1, 2, 3, 4)
+
+
+class Missing(Exception):
+    """A program that is not there, or that could not be built."""
+
+
+# ---- The kit's programs
+
+@lru_cache(maxsize=None)
+def kit():
+    """The kit's folder: `rt doc` names a page two folders below it."""
+    if shutil.which('rt') is None:
+        raise Missing('rt is not on the path: the kit runs what it built')
+    page = subprocess.run(['rt', 'doc'], capture_output=True, text=True, check=True).stdout.strip()
+    return Path(page).parent.parent
+
+
+def kit_here():
+    """What the kit has for this processor."""
+    return kit() / 'on' / platform.machine()
+
+
+def toolchain():
+    return kit_here() / 'toolchain'
+
+
+def emulator():
+    """The kit has one exactly where the processor is not x86-64."""
+    path = toolchain() / 'bin' / 'qemu-x86_64'
+    return path if os.access(path, os.X_OK) else None
+
+
+def under_kit(path):
+    """The words that run an x86-64 program that is linked with the kit's C library."""
+    library = toolchain() / 'lib'
+    start = [emulator()] if emulator() else []
+    return [str(word) for word in (*start, library / 'ld-linux-x86-64.so.2', '--library-path', library, path)]
+
+
+def kit_program(name):
+    path = RECORDER_ROOT / 'target' / 'bin' / name
+    if not path.is_file():
+        raise Missing(f'{name} is not built: `rt check {name}` writes target/bin/{name}')
+    return under_kit(path)
+
+
+def environment():
+    """The emulator takes orders from QEMU_ variables; a run must not hang on them."""
+    return {name: value for name, value in os.environ.items() if not name.startswith('QEMU_')}
+
+
+# ---- The second program
+
+@lru_cache(maxsize=None)
+def second_program(name):
+    """build/second, build/second-sanitize or build/second-mistake-N, built anew once for each run."""
+    script = SECOND_ROOT / 'second' / 'build'
+    if not script.is_file():
+        raise Missing('second/build is not there')
+    words = name.split('-')[1:]
+    built = subprocess.run([str(script), *words], capture_output=True, text=True)
+    path = SECOND_ROOT / 'build' / name
+    if built.returncode != 0 or not path.is_file():
+        raise Missing(f'second/build {" ".join(words)} failed: {built.stderr.strip()}')
+    return str(path)
+
+
+def mistaken(number):
+    return f'second-mistake-{number}'
+
+
+def second_under_kit():
+    """The words that run the second program as the recorder is run: built by the kit's compiler, with its C library.
+
+    The kit has no headers, so they are those of this machine's compiler; what they declare is the same.
+    """
+    sources = sorted((SECOND_ROOT / 'second').glob('*.c'))
+    if not sources:
+        raise Missing('second/ has no program')
+    objects = [BUILD / f'kit-{source.stem}.o' for source in sources]
+    path = BUILD / 'second-kit'
+    BUILD.mkdir(exist_ok=True)
+    target = 'x86_64-unknown-linux-gnu'
+    headers = [word for folder in header_folders() for word in ('-isystem', folder)]
+    clang = [toolchain() / 'bin' / 'clang', f'--target={target}', '-std=c11', '-O2', '-nostdinc', *headers]
+    for source, made in zip(sources, objects):
+        build_step([*clang, '-c', source, '-o', made])
+    build_step([kit_here() / 'bin' / 'rattle-link', '--target', target, '--toolchain', toolchain(), '-o', path, *objects])
+    return under_kit(path)
+
+
+def header_folders():
+    """Where this machine's C compiler looks for headers."""
+    words = ['cc', '-E', '-v', '-x', 'c', '/dev/null']
+    said = subprocess.run(words, capture_output=True, text=True, env={**os.environ, 'LC_ALL': 'C'}).stderr
+    listed = said.partition('search starts here:\n#include <...> search starts here:\n')[2].partition('End of search list.')[0]
+    return [line.strip() for line in listed.splitlines()]
+
+
+def build_step(words):
+    done = subprocess.run([str(word) for word in words], capture_output=True, text=True)
+    if done.returncode != 0:
+        raise Missing(f'{words[0]} failed: {done.stderr.strip()[:2000]}')
+
+
+# ---- The two jobs
+
+def recorder_job(name):
+    """The words that start the job over frames of one of NAMES, or of a mistaken second program."""
+    return kit_program(name) if name == RECORDER else [second_program(name)]
+
+
+def probe_job(name):
+    return kit_program('probe') if name == RECORDER else [second_program(name), 'probe']
+
+
+def output(words, text, seconds=300):
+    """All that a program writes for all that it reads. A crash or a hang stands in it as a line, so that it differs."""
+    try:
+        done = subprocess.run(words, input=text, capture_output=True, timeout=seconds, env=environment())
+    except subprocess.TimeoutExpired as late:
+        return (late.stdout or b'') + b'(it did not end in %d s)\n' % seconds
+    if done.returncode != 0:
+        return done.stdout + b'(it ended with %d: %s)\n' % (done.returncode, done.stderr.strip()[:1000])
+    return done.stdout
+
+
+def outputs(jobs, text):
+    return {name: output(words, text) for name, words in jobs.items()}

@@ -1,0 +1,146 @@
+"""Records for the probe: reached, made up within document 01's letter, at its limits, damaged, and random."""
+
+import random
+
+import model
+from drive import Driver
+from model import (
+    CSP_2, CSP_F, CSP_T, CSP_V, EVENT_LIMIT, FIELDS, FLAGS, SAMPLING_FIELDS, SCREENING_FIELDS, UNIT_LIMIT, WORD, Station,
+)
+
+EXTREMES = (0, 1, 2, 2 ** 31, WORD - 1, UNIT_LIMIT, UNIT_LIMIT + 1, EVENT_LIMIT + 1, EVENT_LIMIT + 2, 10_000, 100_001)
+
+
+class Records:
+    def __init__(self, seed):
+        self.random = random.Random(seed)
+
+    def pick(self, low, high):
+        """A number of low to high, its ends more often than chance has it."""
+        ends = [end for end in (low, low + 1, high - 1, high) if low <= end <= high]
+        return self.random.choice((*ends, self.random.randint(low, high), self.random.randint(low, min(high, low + 8))))
+
+    def word(self):
+        return self.random.choice((self.random.getrandbits(32), self.random.choice(EXTREMES)))
+
+    def memory(self, room):
+        """Words that another may have written: take hands them back as they are."""
+        return [self.random.getrandbits(32) for _ in range(3 * room)]
+
+    # ---- Records that a history reaches
+
+    def reached(self, room, count):
+        """Stations of one random session in a queue of the given room, each with its memory."""
+        driver = Driver(self.random.random())
+        driver.program.queue = self.memory(room)
+        driver.open_somehow()
+        if driver.chance(0.2):
+            driver.near_the_limit()
+        for _ in range(count):
+            for _ in range(self.random.randrange(1, 25)):
+                driver.turn()
+            yield Station(driver.station.words()), list(driver.program.queue)
+
+    # ---- Records that document 01's letter allows, whether a history reaches them or not
+
+    def made_up(self, room):
+        st = Station()
+        self.plan(st)
+        st.C, st.s = room, self.word()
+        self.tallies(st)
+        self.random.choice((self.screening, self.sampling))(st)
+        self.numbers(st)
+        assert model.sound(st), st.words()
+        return st
+
+    def plan(self, st):
+        st.type = self.random.randrange(1, 6)
+        st.n = self.pick(2, 200)
+        st.i = self.pick(1, 10_000)
+        st.S = 0 if st.type == CSP_F else self.pick(st.i, 100_000)
+        st.x = self.pick(1, st.i) if st.type == CSP_V else 0
+        st.N = self.pick(1, 1_000_000) if st.type == CSP_F else 0
+
+    def tallies(self, st):
+        st.last = self.pick(0, model.unit_limit(st))
+        st.owed = self.random.randrange(2) if st.last else 0
+        rest = st.last - st.owed
+        for field in self.random.sample(('conforming', 'defective', 'passed', 'missed'), 4):
+            share = self.pick(0, rest)
+            setattr(st, field, share)
+            rest -= share
+        setattr(st, field, share + rest)
+
+    def screening(self, st):
+        st.phase = model.SCREENING
+        st.need = self.random.choice((st.i, st.x)) if st.type == CSP_V else st.i
+        st.run = self.pick(0, min(st.need - 1, st.conforming))
+        st.screened = self.pick(st.run, st.last - st.owed)
+        if st.run < st.S - 1 <= st.last - st.owed and self.random.random() < 0.3:
+            st.screened = st.S - self.random.randrange(2)
+            st.screened = min(st.screened, st.last - st.owed)
+        st.unrecalled = self.pick(st.run, st.conforming)
+
+    def sampling(self, st):
+        st.phase = model.SAMPLING
+        st.level = self.random.randrange(3) if st.type == CSP_T else 0
+        length = model.block_length(st)
+        st.chosen = self.pick(0, length - 1)
+        st.place = (st.chosen + 1) % length if st.owed else self.random.choice((0, st.chosen, self.pick(0, length - 1)))
+        if st.type == CSP_V:
+            st.row = self.pick(0, st.i)
+        if st.type == CSP_T and st.level < 2:
+            st.row = self.pick(0, st.i - 1)
+        if st.type == CSP_2 and self.random.random() < 0.6:
+            st.watch, st.watched = 1, self.pick(0, st.i - 1)
+
+    def numbers(self, st):
+        self.numbers_from(st, self.random.choice((2, 3, st.C + 1, st.C + 2, self.pick(2, EVENT_LIMIT + 1))))
+        if self.random.random() < 0.2:
+            self.last_numbers(st)
+        st.heard = self.random.randrange(2)
+
+    def last_numbers(self, st):
+        """Two numbers left, one, or none."""
+        self.numbers_from(st, self.random.randrange(EVENT_LIMIT - 2, EVENT_LIMIT + 2))
+
+    def numbers_from(self, st, next):
+        """Queues that are empty, full or nearly so, and full ones with a gap."""
+        held = min(self.random.choice((0, 1, st.C - 2, st.C - 1, st.C, st.C)), next - 1)
+        st.next, st.oldest = next, next - held
+        st.told = self.pick(1, st.oldest) if held == st.C else st.oldest
+        st.silent = self.pick(0, st.next - 2)
+
+    # ---- Records that break a rule, or may
+
+    def with_damage(self, st, field):
+        """The record with one field changed by one or to an extreme. A flag can only be turned over."""
+        words = dict(zip(FIELDS, st.words()))
+        value = words[field]
+        if field in FLAGS:
+            words[field] = 1 - value
+        else:
+            near = ((value + 1) % WORD, (value - 1) % WORD)
+            words[field] = self.random.choice((*near, *near, self.word()))
+        if words['phase'] != st.phase:
+            self.other_phase(words)
+        return Station(words.values())
+
+    def other_phase(self, words):
+        """Fields of the other phase do not exist: when the phase is turned over the old ones are gone, and new ones come."""
+        gone, fresh = (SCREENING_FIELDS, SAMPLING_FIELDS) if words['phase'] else (SAMPLING_FIELDS, SCREENING_FIELDS)
+        words.update((field, 0) for field in gone)
+        words.update((field, self.random.choice((0, 1))) for field in fresh)
+
+    def fields_of(self, st):
+        """The fields that the record has in its phase."""
+        absent = SAMPLING_FIELDS if st.phase == model.SCREENING else SCREENING_FIELDS
+        return [field for field in FIELDS if field not in absent]
+
+    def any_record(self):
+        """Words of chance; flags are 0 or 1, and fields of the other phase do not exist."""
+        st = Station(self.word() for _ in FIELDS)
+        for flag in FLAGS:
+            setattr(st, flag, self.random.randrange(2))
+        model.clear(st, SAMPLING_FIELDS if st.phase == model.SCREENING else SCREENING_FIELDS)
+        return st

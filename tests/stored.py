@@ -1,0 +1,856 @@
+"""The stored sessions in words. `tests/record` writes sessions/ from them; the docstring is the line of its README."""
+
+from model import CSP_1, CSP_2, CSP_F, CSP_T, CSP_V
+from script import Script, words
+
+SESSIONS = {}
+A, G, H, I, K = 1, 7, 8, 9, 11
+TOP = 2 ** 32 - 1
+
+
+def session(write):
+    """Registers a session under its function's name."""
+    SESSIONS[write.__name__.replace('_', '-')] = write
+    return write
+
+
+def text_of(write):
+    script = Script()
+    ending = write(script)
+    return script.text() + (ending or b'')
+
+
+# ---- Document 01's example and its nine cases, where frames can show them
+
+@session
+def example(s):
+    """Document 01's example, whole."""
+    s.open(CSP_1, 2, 2, 3)
+    s.good(2)
+    s.unit(3)
+    s.result(0)
+    s.unit(4)
+    s.unit(6)
+    s.take(5)
+
+
+@session
+def case_1_blocks_of_2(s):
+    """Case 1: seed 0 chooses places 0, 0 and 1 in the first three blocks of 2."""
+    s.open(CSP_1, 2, 1)
+    s.good()
+    s.units(6)
+    s.take_all()
+
+
+@session
+def case_1_blocks_of_100(s):
+    """Case 1: seed 0 chooses places 23, 27 and 81 in the first three blocks of 100."""
+    s.open(CSP_1, 100, 1)
+    s.good()
+    s.units(300)
+    s.take_all()
+
+
+@session
+def case_2_clearance(s):
+    """Case 2: letter A, AQL 10.0: four conforming units do not start sampling, the fifth does."""
+    s.table(CSP_T, A, 10_000)
+    s.take(2)
+    s.good(4)
+    s.take()
+    s.good()
+    s.take(2)
+
+
+@session
+def case_3_defect_as_twelfth(s):
+    """Case 3: letter A, AQL 10.0: a defect as 12th unit screened raises LONG."""
+    s.table(CSP_T, A, 10_000)
+    s.bad()
+    s.good(4)
+    s.bad()
+    s.good(4)
+    s.bad()
+    s.take_all()
+    s.bad()
+    s.take_all()
+
+
+@session
+def case_3_defect_as_eleventh(s):
+    """Case 3: letter A, AQL 10.0: a defect as 11th unit screened raises no LONG, and the run then clears."""
+    s.table(CSP_T, A, 10_000)
+    s.bad(2)
+    s.good(4)
+    s.bad()
+    s.good(3)
+    s.bad()
+    s.take_all()
+    s.good(5)
+    s.take_all()
+
+
+@session
+def case_4_levels(s):
+    """Case 4: letter A, AQL 10.0: 5 good samples give blocks of 4, 10 blocks of 8, 15 still 8."""
+    s.table(CSP_T, A, 10_000)
+    s.good(5)
+    s.good(5)
+    s.take_all()
+    s.good(5)
+    s.take_all()
+    s.good(5)
+    s.units(32)
+    s.take_all()
+
+
+@session
+def case_5_watch_reverts(s):
+    """Case 5: CSP-2, i = 3: defect, 2 good, defect reverts."""
+    s.open(CSP_2, 3, 3, seed=7)
+    s.good(3)
+    s.bad()
+    s.good(2)
+    s.bad()
+    s.take_all()
+
+
+@session
+def case_5_watch_ends(s):
+    """Case 5: CSP-2, i = 3: defect, 3 good, defect stays in sampling and starts a new watch, which the next defect ends."""
+    s.open(CSP_2, 3, 3, seed=7)
+    s.good(3)
+    s.bad()
+    s.good(3)
+    s.bad()
+    s.take_all()
+    s.good(2)
+    s.bad()
+    s.take_all()
+
+
+@session
+def case_6_reduced_need(s):
+    """Case 6: CSP-V, i = 3, x = 1: a defect after 2 good samples gives need 3, after 3 need 1; a defect then, need 3."""
+    s.open(CSP_V, 2, 3, x=1)
+    s.good(3)
+    s.good(2)
+    s.bad()
+    s.good(3)
+    s.good(3)
+    s.bad()
+    s.take_all()
+    s.good()
+    s.take_all()
+    s.good(3)
+    s.bad()
+    s.bad()
+    s.good(2)
+    s.take_all()
+    s.good()
+    s.take_all()
+
+
+@session
+def case_7_period_of_2(s):
+    """Case 7: CSP-F, N = 2: unit 3 gets 7."""
+    s.open(CSP_F, 2, 1, N=2)
+    s.good()
+    s.units(1)
+    s.unit(3)
+    s.take_all()
+
+
+@session
+def case_8_check_finds(s):
+    """Case 8: a check find after 2 good of need 3 sets run to 0; a second find is taken, a third gets 8."""
+    s.open(CSP_1, 4, 3)
+    s.good(2)
+    s.find()
+    s.find()
+    s.find()
+    s.good(2)
+    s.take_all()
+    s.good()
+    s.take_all()
+
+
+@session
+def case_9_ten_ticks(s):
+    """Case 9: open and ten ticks: the marker names 1 and count 3, then come the events 4 to 11."""
+    s.open(CSP_1, 2, 1)
+    s.tick(10)
+    s.take(10)
+
+
+# ---- Each plan reaching all that it can
+
+@session
+def csp_1_round(s):
+    """CSP-1: screening, sampling, a defect, screening again, LONG, sampling again."""
+    s.open(CSP_1, 4, 3, 6, seed=0xDEADBEEF)
+    s.good(3)
+    s.good(5)
+    s.bad()
+    s.take_all()
+    s.good(2)
+    s.bad()
+    s.good(2)
+    s.bad()
+    s.take_all()
+    s.good(3)
+    s.units(20)
+    s.take_all()
+
+
+@session
+def csp_2_keeps_its_block(s):
+    """CSP-2: watches begin and end within blocks of 7 and disturb none: each block has exactly one unit inspected."""
+    s.open(CSP_2, 7, 2, seed=1)
+    s.good(2)
+    for _ in range(4):
+        s.bad()
+        s.units(3)
+        s.good(2)
+        s.units(2)
+    s.take_all()
+    s.units(70)
+    s.take_all()
+
+
+@session
+def csp_2_new_stay(s):
+    """CSP-2: a watch does not outlive its stay; after the return to sampling the first defect starts one anew."""
+    s.open(CSP_2, 2, 2, seed=3)
+    s.good(2)
+    s.bad(2)
+    s.good(2)
+    s.bad()
+    s.good()
+    s.interrupt()
+    s.good(2)
+    s.bad()
+    s.take_all()
+    s.good(2)
+    s.bad()
+    s.bad()
+    s.take_all()
+
+
+@session
+def csp_f_period_end(s):
+    """CSP-F: the period of 9 ends in sampling; further units get 7, and ticks and takes go on."""
+    s.open(CSP_F, 3, 2, N=9, seed=5)
+    s.good(2)
+    s.units(7)
+    s.unit(10)
+    s.unit(TOP)
+    s.unit(9)
+    s.tick(2)
+    s.interrupt()
+    s.take_all()
+
+
+@session
+def csp_f_short_period(s):
+    """CSP-F: i above N: every unit is inspected; S = 0 raises no alarm, however long the screening."""
+    s.open(CSP_F, 2, 10_000, N=30)
+    s.good(3)
+    for _ in range(8):
+        s.bad()
+        s.good(2)
+    s.units(3)
+    s.unit()
+    s.take_all()
+
+
+@session
+def csp_t_reverts(s):
+    """CSP-T: a defect reverts from level 0, from level 1 and from level 2; sampling starts at level 0 each time."""
+    s.open(CSP_T, 3, 2, 50, seed=9)
+    for samples in (1, 2, 3, 4, 6):
+        s.good(2)
+        s.good(samples)
+        s.bad()
+        s.take_all()
+    s.good(3)
+    s.take_all()
+
+
+@session
+def csp_t_drops_the_block(s):
+    """CSP-T: a change of level drops the rest of its block and counts from the next unit; level 2 has blocks of 400."""
+    s.open(CSP_T, 100, 1, 100_000, seed=0x80000000)
+    s.good()
+    s.good()
+    s.good()
+    s.take_all()
+    s.units(820)
+    s.take_all()
+
+
+@session
+def csp_v_row(s):
+    """CSP-V: the row stops at i and counts one stay alone; x below i; after x good units sampling is back."""
+    s.open(CSP_V, 3, 4, x=2, seed=11)
+    s.good(4)
+    s.good(9)
+    s.bad()
+    s.take_all()
+    s.good(2)
+    s.good(3)
+    s.bad()
+    s.take_all()
+    s.good(2)
+    s.take_all()
+    s.good(2)
+    s.good(4)
+    s.bad()
+    s.good(1)
+    s.bad()
+    s.good(3)
+    s.take_all()
+    s.good()
+    s.take_all()
+
+
+@session
+def csp_v_need_i(s):
+    """CSP-V: an interrupt and a jump give need i even after i good samples; a check find keeps need x."""
+    s.open(CSP_V, 2, 3, x=2, seed=2)
+    s.good(6)
+    s.interrupt()
+    s.good(2)
+    s.take_all()
+    s.good(4)
+    s.unit(s.station.last + 3)
+    s.result(0)
+    s.good(1)
+    s.take_all()
+    s.good(1)
+    s.good(3)
+    s.bad()
+    s.good()
+    s.find()
+    s.good()
+    s.take_all()
+    s.good()
+    s.take_all()
+
+
+# ---- The tables
+
+@session
+def table_v_without_seed(s):
+    """Frame 08: CSP-T, letter G, AQL 2.5, no seed: i 49, n 15, seed 0; the alarm comes at 376 and not before."""
+    s.table(CSP_T, G, 2_500)
+    s.take()
+    for _ in range(15):
+        s.good(24)
+        s.bad()
+        s.take_all()
+    s.bad()
+    s.take_all()
+    s.good(49)
+    s.units(30)
+    s.take_all()
+
+
+@session
+def table_v_with_seed(s):
+    """Frame 08: CSP-T, letter K, AQL 10.0, seed 12345678: i 23, n 100, blocks of 100 and then of 200."""
+    s.table(CSP_T, K, 10_000, seed=0x12345678)
+    s.take()
+    s.good(23)
+    s.take_all()
+    s.good(23)
+    s.take_all()
+    s.units(400)
+    s.take_all()
+
+
+@session
+def table_iii_a_4(s):
+    """Frame 08: CSP-F, letter H, N 70,001: i 2215, n 25; N is the limit of units."""
+    s.table(CSP_F, H, 40, N=70_001, seed=TOP)
+    s.take()
+    s.unit(70_002)
+    s.unit(70_001)
+    s.result(0)
+    s.unit(70_002)
+    s.take_all()
+
+
+@session
+def table_iii_a_4_without_seed(s):
+    """Frame 08: CSP-F, letter A, N 500, no seed: i 195, n 2; 195 conforming start sampling."""
+    s.table(CSP_F, A, 40, N=500)
+    s.good(194)
+    s.take_all()
+    s.good()
+    s.units(12)
+    s.take_all()
+
+
+@session
+def table_absent(s):
+    """Frame 08: entries that no table has get 3: types, letters, AQLs and periods; then one that is there."""
+    for type in (0, 1, 2, 5, 6, TOP):
+        s.table(type, A, 10_000)
+        s.table(type, A, 40, N=500)
+    for letter in (0, 12, TOP):
+        s.table(CSP_T, letter, 400)
+        s.table(CSP_F, letter, 40, N=500, seed=1)
+    for letter in (I, 10, K):
+        s.table(CSP_F, letter, 40, N=500)
+    for aql in (0, 40, 399, 401, 1, 10_001, 100_000, TOP):
+        s.table(CSP_T, A, aql)
+    for aql in (0, 39, 41, 400, 10_000):
+        s.table(CSP_F, A, aql, N=500)
+    s.table(CSP_T, A, 400, N=1)
+    for period in (0, 1_000_001, TOP):
+        s.table(CSP_F, A, 40, N=period)
+    s.take()
+    s.table(CSP_F, A, 40, N=1_000_000)
+    s.take()
+
+
+@session
+def plans_out_of_range(s):
+    """Frame 01: each plan number one step out of its range gets 3; then the largest plan is taken."""
+    plans = {
+        CSP_1: (CSP_1, 2, 1, 1, 0, 0), CSP_2: (CSP_2, 200, 10_000, 100_000, 0, 0),
+        CSP_F: (CSP_F, 2, 1, 0, 0, 1), CSP_T: (CSP_T, 2, 5, 12, 0, 0), CSP_V: (CSP_V, 2, 5, 12, 5, 0),
+    }
+    changes = [
+        (CSP_1, 0, 0), (CSP_1, 0, 6), (CSP_1, 0, TOP), (CSP_1, 1, 0), (CSP_1, 1, 1), (CSP_1, 1, 201), (CSP_1, 2, 0),
+        (CSP_2, 2, 10_001), (CSP_1, 3, 0), (CSP_T, 3, 4), (CSP_2, 3, 9_999), (CSP_2, 3, 100_001), (CSP_2, 3, 0),
+        (CSP_F, 3, 1), (CSP_1, 4, 1), (CSP_F, 4, 1), (CSP_T, 4, 1), (CSP_V, 4, 0), (CSP_V, 4, 6),
+        (CSP_1, 5, 1), (CSP_V, 5, 1), (CSP_F, 5, 0), (CSP_F, 5, 1_000_001), (CSP_F, 5, TOP),
+    ]
+    for type, at, number in changes:
+        plan = list(plans[type])
+        plan[at] = number
+        s.line(words(1, *plan, 0))
+    s.line(words(2, 1))
+    s.open(CSP_V, 200, 10_000, 100_000, x=10_000, seed=TOP)
+    s.take(2)
+
+
+# ---- Refusals
+
+@session
+def before_open(s):
+    """Each call before an accepted open gets 2, a result neither 0 nor 1 too; a refused open changes nothing."""
+    s.line(words(2, 1))
+    for code in (4, 5, 6, 7):
+        s.line(words(code))
+    s.line(words(3, 0))
+    s.line(words(3, 2))
+    s.open(CSP_1, 1, 1)
+    s.line(words(2, 0))
+    s.take()
+
+
+@session
+def open_again(s):
+    """An open after an accepted open gets 9, by frame 01 and by 08, with a good plan and with a bad one."""
+    s.open(CSP_1, 2, 2)
+    s.open(CSP_1, 2, 2)
+    s.open(CSP_1, 1, 0)
+    s.table(CSP_T, A, 10_000)
+    s.table(CSP_T, 0, 0)
+    s.good()
+    s.open(CSP_F, 2, 2, N=4)
+    s.good()
+    s.take_all()
+
+
+@session
+def result_owed(s):
+    """While a result is owed a unit, an interrupt and a find get 4, in both phases; ticks and takes are done."""
+    s.open(CSP_1, 2, 2)
+    for _ in range(2):
+        s.inspected()
+        for k in (0, s.station.last, s.station.last + 1, TOP):
+            s.unit(k)
+        s.interrupt()
+        s.find()
+        s.tick(2)
+        s.take()
+        s.result(2)
+        s.result(0)
+        s.good()
+    s.take_all()
+
+
+@session
+def no_result_owed(s):
+    """A result that is not owed gets 5: before the first unit, twice, and for a passed unit; 9 comes before 5."""
+    s.open(CSP_1, 2, 1)
+    s.result(0)
+    s.result(1)
+    s.result(2)
+    s.good()
+    s.result(0)
+    s.good(2)
+    s.unit()
+    s.unit()
+    s.result(0)
+    s.result(1)
+    s.result(TOP)
+    s.result(0x80000000)
+    s.take_all()
+
+
+@session
+def unit_numbers(s):
+    """A unit number that is not above the last gets 6, one above 1,000,000 gets 7; 1,000,000 itself is handled."""
+    s.open(CSP_1, 2, 2)
+    for k in (0, 1_000_001, TOP, 0x80000000):
+        s.unit(k)
+    s.good(2)
+    for k in (0, 1, 2, 1_000_001):
+        s.unit(k)
+    s.unit(999_999)
+    s.result(0)
+    s.unit(1_000_000)
+    s.result(0)
+    s.unit(1_000_000)
+    s.unit(1_000_001)
+    s.interrupt()
+    s.tick(3)
+    s.take_all()
+
+
+@session
+def finds_refused(s):
+    """A check find gets 8 at the start, when all are recalled, in sampling and after a return; 4 comes before 8."""
+    s.open(CSP_1, 3, 2, 9)
+    s.find()
+    s.bad()
+    s.find()
+    s.good()
+    s.find()
+    s.find()
+    s.good(2)
+    s.find()
+    s.inspected()
+    s.find()
+    s.result(1)
+    s.find()
+    s.good()
+    s.bad()
+    s.find()
+    s.find()
+    s.take_all()
+
+
+# ---- Long screening
+
+@session
+def long_at_every_defect(s):
+    """S = 4: LONG comes at each defect from the 4th unit screened on, and starts nothing anew; a find sets screened to 0."""
+    s.open(CSP_1, 2, 3, 4)
+    s.bad(3)
+    s.take_all()
+    s.bad()
+    s.take_all()
+    s.good(2)
+    s.bad(2)
+    s.take_all()
+    s.good()
+    s.find()
+    s.bad(3)
+    s.take_all()
+    s.bad()
+    s.take_all()
+
+
+@session
+def long_after_a_new_sequence(s):
+    """Screened starts at 0 after a reverting defect, which is not counted, after a jump and after an interrupt."""
+    s.open(CSP_1, 2, 2, 3)
+    s.bad(2)
+    s.unit(5)
+    s.result(1)
+    s.bad()
+    s.take_all()
+    s.interrupt()
+    s.bad(2)
+    s.take_all()
+    s.good(2)
+    s.bad()
+    s.bad(2)
+    s.take_all()
+    s.bad()
+    s.take_all()
+
+
+# ---- Missed units and interrupts
+
+@session
+def jump_in_screening(s):
+    """A jump in screening starts the run anew: 2 good, one missed, 1 good is no run of 3; no PHASE is told."""
+    s.open(CSP_1, 2, 3)
+    s.good(2)
+    s.unit(4)
+    s.result(0)
+    s.take_all()
+    s.good()
+    s.take_all()
+    s.good()
+    s.take_all()
+
+
+@session
+def jump_in_sampling(s):
+    """A jump in sampling: MISSED, then PHASE with the unit that jumped, which is inspected; the level is gone."""
+    s.open(CSP_T, 2, 1)
+    s.good(3)
+    s.unit(s.station.last + 4)
+    s.take_all()
+    s.result(0)
+    s.good()
+    s.unit(TOP)
+    s.unit(1_000_000)
+    s.result(1)
+    s.take_all()
+
+
+@session
+def jump_at_first(s):
+    """A first unit above 1: the units from 1 on were missed."""
+    s.open(CSP_2, 2, 1)
+    s.unit(41)
+    s.result(0)
+    s.take_all()
+
+
+@session
+def jumps_one_after_the_other(s):
+    """Each unit jumps: each starts a new sequence, and one good unit never clears a run of 2."""
+    s.open(CSP_1, 2, 2)
+    for k in (2, 4, 7, 11):
+        s.unit(k)
+        s.result(0)
+    s.take_all()
+    s.unit(12)
+    s.result(0)
+    s.take_all()
+
+
+@session
+def interrupts(s):
+    """An interrupt in screening starts the sequence anew and tells no PHASE; in sampling it tells both."""
+    s.open(CSP_1, 5, 2)
+    s.interrupt()
+    s.good()
+    s.interrupt()
+    s.find()
+    s.good(2)
+    s.units(2)
+    s.interrupt()
+    s.take_all()
+    s.interrupt()
+    s.good(2)
+    s.take_all()
+
+
+# ---- Silence
+
+@session
+def silence(s):
+    """Ticks with no unit since the last tick count up; an accepted unit starts the count anew, and nothing else does."""
+    s.open(CSP_1, 2, 2)
+    s.tick(2)
+    s.good()
+    s.tick(3)
+    s.take_all()
+    s.unit(1)
+    s.interrupt()
+    s.tick()
+    s.take_all()
+    s.inspected()
+    s.tick(3)
+    s.result(0)
+    s.tick()
+    s.take_all()
+    s.units(2)
+    s.unit()
+    s.tick()
+    s.tick()
+    s.take_all()
+
+
+@session
+def silence_broken_by_units(s):
+    """Each tick after a unit is no silence, however many units came between."""
+    s.open(CSP_1, 2, 1)
+    for between in (1, 2, 1):
+        s.units(between)
+        s.tick()
+    s.take_all()
+    s.tick()
+    s.take_all()
+
+
+# ---- The queue
+
+@session
+def overflow_widens(s):
+    """A second and a third overflow before the first is told widen the one gap; it is told once."""
+    s.open(CSP_1, 2, 1)
+    s.tick(8)
+    s.tick(1)
+    s.tick(5)
+    s.take(9)
+    s.take()
+
+
+@session
+def overflow_twice_in_one_call(s):
+    """One call drops two events: DEFECT and LONG come to a full queue."""
+    s.open(CSP_1, 2, 3, 3)
+    s.tick(7)
+    s.bad(3)
+    s.take()
+    s.bad()
+    s.take_all()
+
+
+@session
+def overflow_at_the_edge(s):
+    """Two events that find one place free drop one; eight events fit with no marker."""
+    s.open(CSP_1, 2, 1)
+    s.tick(7)
+    s.take()
+    s.tick()
+    s.take()
+    s.bad()
+    s.take_all()
+    s.tick(9)
+    s.take_all()
+
+
+@session
+def markers_between_takes(s):
+    """Takes between overflows: several markers, each naming only what was not told before."""
+    s.open(CSP_1, 3, 1)
+    s.tick(9)
+    s.take()
+    s.tick(3)
+    s.take(2)
+    s.tick(20)
+    s.take()
+    s.tick()
+    s.take(3)
+    s.good()
+    s.bad()
+    s.tick(6)
+    s.take_all()
+    s.take()
+    s.tick()
+    s.take_all()
+
+
+@session
+def take_as_it_goes(s):
+    """A take after each call: no marker, and "nothing" where nothing was raised."""
+    s.open(CSP_2, 2, 1, 2, seed=4)
+    for r in (1, 0, 0, 1, 0, 0, 1, 1, 1, 0):
+        s.take()
+        s.inspected()
+        s.take()
+        s.result(r)
+        s.take()
+        s.tick()
+    s.take_all()
+
+
+# ---- Frames
+
+ILL_FORMED = [
+    b'', b' ', b'0', b'00', b'09', b'0A', b'10', b'FF', b'7', b'007', b'0007', b'0x07', b'+7', b'-7', b'07\r',
+    b'07\t', b'\t07', b' 07', b'07 ', b'07  ', b'07 00000000', b'07,', b'#', b'take', b'02', b'02 ', b'02 1',
+    b'02 0000001', b'02 000000001', b'02 0000000G', b'02 +0000001', b'02 -0000001', b'02 0000 001', b'02  00000001',
+    b'02\t00000001', b'02 00000001 ', b'02 00000001\r', b' 02 00000001', b'0200000001', b'02 00000001 00000002',
+    b'02 0000000a', b'0a 00000001', b'03', b'03 0', b'03 00000000 00000000', b'04 00000000', b'05 00000000',
+    b'06 00000000', b'01 00000001 00000002 00000002 00000003 00000000 00000000',
+    b'01 00000001 00000002 00000002 00000003 00000000 00000000 00000000 00000000',
+    b'01 00000001 00000002 00000002 00000003 00000000 00000000 0000000f', b'08 00000004 00000001 00002710',
+    b'08 00000004 00000001 00002710 00000000 00000000 00000000', b'08 00000004 00000001  00002710 00000000',
+    b'02 0000\x000001', b'\x00', b'07\x00', b'\xff\xfe', b'07\xc2\xa0', b'02\xa000000001', b'02 0000000\xc9\xb9',
+    b'07 07', b'07;07', b'07\x0b', b'07\x0c', b'\x1a',
+]
+
+
+@session
+def ill_formed_before_open(s):
+    """Ill-formed lines of every kind get 9, not 2, before an open."""
+    for line in ILL_FORMED:
+        s.line(line)
+    s.open(CSP_1, 2, 2)
+    s.take(2)
+
+
+@session
+def ill_formed_after_open(s):
+    """Ill-formed lines of every kind get 9 after an open, change nothing and break no silence."""
+    s.open(CSP_1, 2, 2)
+    s.tick()
+    s.inspected()
+    for line in ILL_FORMED:
+        s.line(line)
+    s.result(0)
+    s.tick(3)
+    s.good()
+    s.take_all()
+
+
+@session
+def line_lengths(s):
+    """Lines of 79, 80, 81 and more characters, to 10,000, get one 9 each, and nothing of them is kept."""
+    s.open(CSP_1, 2, 2)
+    for length in (79, 80, 81, 82, 160, 161, 4_096, 10_000):
+        s.line(b'0' * length)
+        s.line((b'07 ' * length)[:length])
+        s.line(b'07' + b' ' * (length - 2))
+        s.line(words(2, 1) + b'0' * (length - 11))
+        s.line(b' ' * (length - 11) + words(2, 1))
+    s.good(2)
+    s.take_all()
+
+
+@session
+def last_line_without_line_feed(s):
+    """A last line without line feed is ill-formed, though it would be a good frame."""
+    s.open(CSP_1, 2, 2)
+    s.take()
+    return b'06'
+
+
+@session
+def last_long_line_without_line_feed(s):
+    """A last line of 300 characters without line feed gets one 9."""
+    s.open(CSP_1, 2, 2)
+    return b'07 ' * 100
+
+
+@session
+def no_line_feed_at_all(s):
+    """An open without line feed is the whole input: one 9."""
+    return words(1, 1, 2, 2, 3, 0, 0, 0)
+
+
+@session
+def no_input(s):
+    """Empty input prints nothing."""
+
+
+@session
+def empty_lines(s):
+    """Input of line feeds alone: a 9 for each."""
+    for _ in range(5):
+        s.line(b'')
