@@ -1,7 +1,7 @@
 -- A number is its digits' weights summed, limited to 2^32. Assumes nothing.
 use mathlib.Core.Path.{_≡_, refl, sym, _∙_}
 use mathlib.Core.List.{List}
-use Prim.Native.Nat.{ℕ, zero, suc, _+_, _*_, _<_, _≤_, _^_}
+use Prim.Native.Nat.{ℕ, zero, suc, _+_, _-_, _*_, _<_, _≤_, _^_}
 use native.Mathlib.Decide.{decLt}
 use native.Mathlib.Omega.{arith}
 use lib.Dec.{ltb}
@@ -10,6 +10,18 @@ use borrow.Author.Tests.{lt-ltb, le-ltb}
 use Rattle.rules.specs.Tests.{pick, _and_}
 use Rattle.rules.specs.Frames.{digit, joined, hex, noNumber}
 use Rattle.frames.specs.Weights.{weight, sum, limited}
+
+-- the weights of the digits
+module _ (b : ℕ) where
+  pub decimal : 48 ≤ b → b < 58 → b - 48 ≡ weight b
+  unfolding weight digit
+  decimal l h = let k : b - 48 < 16 = omega arith in simp (le-ltb b 48 l, lt-ltb b 58 h, lt-ltb (b - 48) 16 k)
+
+  pub letter : 65 ≤ b → b < 71 → b - 55 ≡ weight b
+  unfolding weight digit
+  letter l h =
+      let k : b - 55 < 16 = omega arith in let m : 48 ≤ b = omega arith in let n : 58 ≤ b = omega arith in
+      simp (le-ltb b 48 m, le-ltb b 58 n, le-ltb b 65 l, lt-ltb b 71 h, lt-ltb (b - 55) 16 k)
 
 below : (v : ℕ) → v < 2 ^ 32 → limited v ≡ v
 unfolding limited

@@ -1,3 +1,2 @@
-pub mod Every
 pub mod HexSum
 pub mod Variants

@@ -2,24 +2,6 @@ use borrow.Author.Needs.{needs}
 use Rattle.frames.proofs.session.call_turn.Statement.{statement}
 use Rattle.frames.proofs.session.call_turn.Tie as tie
 
-unit-requires : tie.Need-unit-requires
-unit-requires c κs = ?
-
-result-requires : tie.Need-result-requires
-result-requires c κs = ?
-
-interrupt-requires : tie.Need-interrupt-requires
-interrupt-requires c κs = ?
-
-check-find-requires : tie.Need-check-find-requires
-check-find-requires c κs = ?
-
-tick-requires : tie.Need-tick-requires
-tick-requires c κs = ?
-
-take-requires : tie.Need-take-requires
-take-requires c κs = ?
-
 returns : tie.Need-returns
 returns c = rw (c .before .before .before .before .before .call .given .1) (c .before .before .unit .ensures)
 
@@ -43,17 +25,17 @@ call-turn-spec =
     tie.close
     (tie.spec
     (λ c. search needs)
-    unit-requires
+    (λ c κs. search needs)
     (λ c. search needs)
-    result-requires
+    (λ c κs. search needs)
     (λ c. search needs)
-    interrupt-requires
+    (λ c κs. search needs)
     (λ c. search needs)
-    check-find-requires
+    (λ c κs. search needs)
     (λ c. search needs)
-    tick-requires
+    (λ c κs. search needs)
     (λ c. search needs)
-    take-requires
+    (λ c κs. search needs)
     (λ c. search needs)
     returns
     (λ c. search needs)
