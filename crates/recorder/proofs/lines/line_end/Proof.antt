@@ -6,8 +6,6 @@ use Prim.Native.Nat.{ℕ, _≤_, _<_, _-_}
 use borrow.Author.Needs.{needs}
 use Rattle.recorder.proofs.lines.line_end.Statement.{statement}
 use Rattle.recorder.proofs.lines.line_end.Tie as tie
-use Rattle.recorder.proofs.lines.line_end.Reads as reads
-use Rattle.recorder.proofs.lines.line_end.Lts as lts
 
 abbrev Inv-loop : tie.InvT-loop
 Inv-loop s from i₀ i = (from ≤ i) × (i ≤ length s) × ((k : ℕ) → k < i → from ≤ k → getD s k 0 ≡ 10 → ⊥)
@@ -15,31 +13,15 @@ Inv-loop s from i₀ i = (from ≤ i) × (i ≤ length s) × ((k : ℕ) → k < 
 abbrev μ-loop : tie.MeasureT-loop
 μ-loop s from i₀ i = length s - i
 
--- src/lines.rt:15:5
 loop-holds : tie.Need-loop-holds Inv-loop μ-loop
 loop-holds c = (search needs, search needs, λ k h l e. omega arith)
 
--- src/lines.rt:16:12
-shared-slice-read-if1 : tie.Need-shared-slice-read-if1 Inv-loop μ-loop
-shared-slice-read-if1 c = search needs
-
--- src/lines.rt:17:13
 returns : tie.Need-returns Inv-loop μ-loop
 returns c = let l = c .before .before .before .loop in record { low = l .inv .0; high = l .inv .1; plain = l .inv .2; feed = λ h. c .if1 .taken }
 
--- src/lines.rt:19:9
-add-i : tie.Need-add-i Inv-loop μ-loop
-add-i c = search needs
-
--- src/lines.rt:15:5
-loop-less : tie.Need-loop-less Inv-loop μ-loop
-loop-less c = search needs
-
--- src/lines.rt:15:5
 loop-again : tie.Need-loop-again Inv-loop μ-loop
 loop-again c = (search needs, search needs, below-more _ _ (c .before .before .before .loop .inv .2) (λ h. c .if1 .left))
 
--- src/lines.rt:10:1
 returns-2 : tie.Need-returns-2 Inv-loop μ-loop
 returns-2 c = let l = c .before .loop in record { low = l .inv .0; high = l .inv .1; plain = l .inv .2; feed = λ h. omega arith }
 
@@ -50,9 +32,9 @@ line-end-spec =
     Inv-loop
     μ-loop
     loop-holds
-    shared-slice-read-if1
+    (λ c. search needs)
     returns
-    add-i
-    loop-less
+    (λ c. search needs)
+    (λ c. search needs)
     loop-again
     returns-2)

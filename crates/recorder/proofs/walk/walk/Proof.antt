@@ -10,12 +10,6 @@ use Prim.Native.Nat.{ℕ, _≤_, _<_, _-_, _*_, _+_, _^_}
 use borrow.Author.Needs.{needs}
 use Rattle.recorder.proofs.walk.walk.Statement.{statement}
 use Rattle.recorder.proofs.walk.walk.Tie as tie
-use Rattle.recorder.proofs.walk.walk.Reads as reads
-use Rattle.recorder.proofs.walk.walk.Lts as lts
-use Rattle.recorder.proofs.lines.keep.Reads as keep-reads
-use Rattle.recorder.proofs.lines.line_end.Reads as line-end-reads
-use Rattle.recorder.proofs.walk.finish.Reads as finish-reads
-use Rattle.recorder.proofs.walk.put_text.Reads as put-text-reads
 
 abbrev Inv-loop : tie.InvT-loop
 Inv-loop line₀ held chunk out₀ s₀ kept₀ at₀ from₀ line out s kept at from = (walk s₀ (take held line₀) chunk ≡ after (take at out) (walk s (take kept line) (drop from chunk))) × (kept ≤ heldMost) × (length line ≡ length line₀) × (length out ≡ length out₀) × (from ≤ length chunk) × (at ≤ 33 * from) × (length out < 2 ^ 64)
@@ -23,87 +17,27 @@ Inv-loop line₀ held chunk out₀ s₀ kept₀ at₀ from₀ line out s kept at
 abbrev μ-loop : tie.MeasureT-loop
 μ-loop line₀ held chunk out₀ s₀ kept₀ at₀ from₀ line out s kept at from = length chunk - from
 
--- src/walk.rt:50:5
 loop-holds : tie.Need-loop-holds Inv-loop μ-loop
 loop-holds c = (refl, search needs, refl, refl, search needs, search needs, search needs)
 
--- src/walk.rt:51:13
-line-end-requires : tie.Need-line-end-requires Inv-loop μ-loop
-line-end-requires c κs = search needs
-
--- src/walk.rt:53:41
-sub-keep : tie.Need-sub-keep Inv-loop μ-loop
-sub-keep c = search needs
-
--- src/walk.rt:53:41
-part-keep-start : tie.Need-part-keep-start Inv-loop μ-loop
-part-keep-start c = search needs
-
--- src/walk.rt:53:41
-part-keep-end : tie.Need-part-keep-end Inv-loop μ-loop
-part-keep-end c = search needs
-
--- src/walk.rt:53:17
-keep-requires : tie.Need-keep-requires Inv-loop μ-loop
-keep-requires c κs = search needs
-
--- src/walk.rt:54:13
-same-length : tie.Need-same-length Inv-loop μ-loop
-same-length c = search needs
-
--- src/walk.rt:54:13
-same-length-2 : tie.Need-same-length-2 Inv-loop μ-loop
-same-length-2 c = search needs
-
--- src/walk.rt:54:13
 returns : tie.Need-returns Inv-loop μ-loop
 returns c = let l = c .before .before .before .before .before .before .before .before .loop in let e = c .before .before .before .before .before .before .line-end in let w = left _ (l .s) (take (l .kept) (l .line)) (now (c .before .before .before .before .before .before .before .before .before .before .before .before .args .chunk)) (take (l .at) (l .out)) (l .from) (e .result) (e .ensures) (l .inv .0) (c .before .before .before .before .before .if1 .taken) in record { session = sym (ap (λ (x : Course). x .session) w); most = c .before .before .keep .ensures .0; line = c .before .before .keep .ensures .1 ∙ ap (λ (x : Course). take heldMost (x .line)) (sym w); room = omega (arith, l .inv, c .before .before .before .before .before .before .before .before .before .before .before .before .pre); text = sym (ap (λ (x : Course). x .text) w) }
 
--- src/walk.rt:60:39
-sub-finish : tie.Need-sub-finish Inv-loop μ-loop
-sub-finish c = search needs
-
--- src/walk.rt:60:39
-part-finish-start : tie.Need-part-finish-start Inv-loop μ-loop
-part-finish-start c = search needs
-
--- src/walk.rt:60:39
-part-finish-end : tie.Need-part-finish-end Inv-loop μ-loop
-part-finish-end c = search needs
-
--- src/walk.rt:60:13
-finish-requires : tie.Need-finish-requires Inv-loop μ-loop
-finish-requires c κs = search needs
-
--- src/walk.rt:62:9
 put-text-requires : tie.Need-put-text-requires Inv-loop μ-loop
 put-text-requires c κs = omega (arith, c .before .before .before .before .before .before .before .before .line-end .ensures .low, c .before .before .before .before .before .before .before .before .line-end .ensures .high, c .before .before .before .before .before .before .before .if1 .left, c .before .before .before .before .before .before .before .before .before .before .loop .inv, c .before .before .before .before .before .before .before .before .before .before .before .before .before .before .pre)
 
--- src/walk.rt:65:9
 add-at : tie.Need-add-at Inv-loop μ-loop
 add-at c = omega (arith, c .before .before .before .before .before .before .before .before .before .before .before .before .before .before .loop .inv, c .before .before .before .before .before .before .before .before .before .before .before .before .before .loop-test .taken, c .before .before .before .before .before .before .before .before .before .before .before .before .before .before .before .before .before .before .pre)
 
--- src/walk.rt:66:16
 add-from : tie.Need-add-from Inv-loop μ-loop
 add-from c = omega (arith, c .before .before .before .before .before .before .before .before .before .before .before .before .line-end .ensures .high, c .before .before .before .before .before .before .before .before .before .before .before .if1 .left, c .before .before .before .before .before .before .before .before .before .before .before .before .before .before .loop .inv, c .before .before .before .before .before .before .before .before .before .before .before .before .before .before .before .before .before .before .pre)
 
--- src/walk.rt:50:5
 loop-less : tie.Need-loop-less Inv-loop μ-loop
 loop-less c = omega (arith, c .before .before .before .before .before .before .before .before .before .before .before .before .line-end .ensures .low, c .before .before .before .before .before .before .before .before .before .before .before .before .before .loop-test .taken)
 
--- src/walk.rt:50:5
 loop-again : tie.Need-loop-again Inv-loop μ-loop
 loop-again c = let l = c .before .before .before .before .before .before .before .before .before .before .before .before .before .before .loop in let e = c .before .before .before .before .before .before .before .before .before .before .before .before .line-end in let f = c .before .before .before .before .before .before .before .before .finish in let m : e .result < length (now (c .before .before .before .before .before .before .before .before .before .before .before .before .before .before .before .before .before .before .args .chunk)) = omega (arith, e .ensures .high, c .before .before .before .before .before .before .before .before .before .before .before .if1 .left) in (answered _ (l .s) (take (l .kept) (l .line)) (now (c .before .before .before .before .before .before .before .before .before .before .before .before .before .before .before .before .before .before .args .chunk)) (take (l .at) (l .out)) (l .from) (e .result) (e .ensures) (l .inv .0) (f .result) _ (f .ensures) (c .before .before .before .put-text .ensures) m, search needs, c .before .before .before .before .before .before .before .line2 .given ∙ l .inv .2, c .before .before .out .given ∙ l .inv .3, omega arith, omega (arith, l .inv, e .ensures .low), omega (arith, l .inv, c .before .before .out .given))
 
--- src/walk.rt:42:1
-same-length-3 : tie.Need-same-length-3 Inv-loop μ-loop
-same-length-3 c = search needs
-
--- src/walk.rt:42:1
-same-length-4 : tie.Need-same-length-4 Inv-loop μ-loop
-same-length-4 c = search needs
-
--- src/walk.rt:42:1
 returns-2 : tie.Need-returns-2 Inv-loop μ-loop
 returns-2 c = let l = c .before .loop in let w = empty _ (l .s) (take (l .kept) (l .line)) (now (c .before .before .before .before .before .args .chunk)) (take (l .at) (l .out)) (l .from) (l .inv .0) (c .loop-test .left) in record { session = sym (ap (λ (x : Course). x .session) w); most = l .inv .1; line = sym (take-all heldMost (take (l .kept) (l .line)) (simp length-take (omega arith))) ∙ ap (λ (x : Course). take heldMost (x .line)) (sym w); room = omega (arith, l .inv, c .before .before .before .before .before .pre); text = sym (ap (λ (x : Course). x .text) w) }
 
@@ -114,23 +48,23 @@ walk-spec =
     Inv-loop
     μ-loop
     loop-holds
-    line-end-requires
-    sub-keep
-    part-keep-start
-    part-keep-end
-    keep-requires
-    same-length
-    same-length-2
+    (λ c κs. search needs)
+    (λ c. search needs)
+    (λ c. search needs)
+    (λ c. search needs)
+    (λ c κs. search needs)
+    (λ c. search needs)
+    (λ c. search needs)
     returns
-    sub-finish
-    part-finish-start
-    part-finish-end
-    finish-requires
+    (λ c. search needs)
+    (λ c. search needs)
+    (λ c. search needs)
+    (λ c κs. search needs)
     put-text-requires
     add-at
     add-from
     loop-less
     loop-again
-    same-length-3
-    same-length-4
+    (λ c. search needs)
+    (λ c. search needs)
     returns-2)
