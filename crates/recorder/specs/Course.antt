@@ -28,6 +28,16 @@ walk s line [] = record { session = s; line = line; text = [] }
 walk s line (b ∷ input) =
     pick (eqb b 10) (after (reply s line .text) (walk (reply s line .session) [] input)) (walk s (line ++ b ∷ []) input)
 
+-- what the program writes of an input that comes in parts: no more of a line is held between two parts than `heldMost`
+unfoldable pub answers : Session → List ℕ → List (List ℕ) → List ℕ
+answers s line [] = lastText line
+answers s line (part ∷ parts) =
+    walk s line part .text ++ answers (walk s line part .session) (take heldMost (walk s line part .line)) parts
+
+abbrev pub whole : List (List ℕ) → List ℕ
+whole [] = []
+whole (part ∷ parts) = part ++ whole parts
+
 -- where a line ends
 pub record LineEnd (s : List ℕ) (from r : ℕ) : Type 0 where
   pub low : from ≤ r
