@@ -1,0 +1,64 @@
+-- A number is its digits' weights summed, limited to 2^32. Assumes nothing.
+use mathlib.Core.Path.{_≡_, refl, sym, _∙_}
+use mathlib.Core.List.{List}
+use Prim.Native.Nat.{ℕ, zero, suc, _+_, _-_, _*_, _<_, _≤_, _^_}
+use native.Mathlib.Decide.{decLt}
+use native.Mathlib.Omega.{arith}
+use lib.Dec.{ltb}
+use lib.ListN.{getD}
+use borrow.Author.Tests.{lt-ltb, le-ltb}
+use Rattle.rules.specs.Tests.{pick, _and_}
+use Rattle.rules.specs.Frames.{digit, joined, hex, noNumber}
+use Rattle.frames.specs.Weights.{weight, sum, limited}
+
+-- the weights of the digits
+module _ (b : ℕ) where
+  pub decimal : 48 ≤ b → b < 58 → b - 48 ≡ weight b
+  unfolding weight digit
+  decimal l h = let k : b - 48 < 16 = omega arith in simp (le-ltb b 48 l, lt-ltb b 58 h, lt-ltb (b - 48) 16 k)
+
+  pub letter : 65 ≤ b → b < 71 → b - 55 ≡ weight b
+  unfolding weight digit
+  letter l h =
+      let k : b - 55 < 16 = omega arith in let m : 48 ≤ b = omega arith in let n : 58 ≤ b = omega arith in
+      simp (le-ltb b 48 m, le-ltb b 58 n, le-ltb b 65 l, lt-ltb b 71 h, lt-ltb (b - 55) 16 k)
+
+below : (v : ℕ) → v < 2 ^ 32 → limited v ≡ v
+unfolding limited
+below v h = rw (lt-ltb v (2 ^ 32) h)
+
+above : (v : ℕ) → 2 ^ 32 ≤ v → limited v ≡ noNumber
+unfolding limited
+above v h = rw (le-ltb v (2 ^ 32) h)
+
+-- one more digit
+module _ (v b : ℕ) where
+  fits : v < 2 ^ 28 → digit b < 16 → joined (limited v) (digit b) ≡ limited (v * 16 + weight b)
+  unfolding joined weight _and_
+  fits h d =
+      rw (below v (omega arith), lt-ltb v (2 ^ 28) h, lt-ltb (digit b) 16 d) (sym (below (v * 16 + digit b) (omega arith)))
+
+  no-digit : v < 2 ^ 28 → 16 ≤ digit b → joined (limited v) (digit b) ≡ limited (v * 16 + weight b)
+  unfolding joined weight _and_
+  no-digit h d =
+      rw (below v (omega arith), lt-ltb v (2 ^ 28) h, le-ltb (digit b) 16 d) (sym (above (v * 16 + noNumber) (omega arith)))
+
+  over : (w : ℕ) → w ≡ limited v → 2 ^ 28 ≤ w → 2 ^ 28 ≤ v → joined (limited v) (digit b) ≡ limited (v * 16 + weight b)
+  unfolding joined _and_
+  over w e k h = rw (← e, le-ltb w (2 ^ 28) k) (sym (above (v * 16 + weight b) (omega arith)))
+
+  long : 2 ^ 28 ≤ v → Dec (v < 2 ^ 32) → joined (limited v) (digit b) ≡ limited (v * 16 + weight b)
+  long h (yes l) = over v (sym (below v l)) h h
+  long h (no l) = over (2 ^ 32) (sym (above v (omega arith))) (omega arith) h
+
+  join : Dec (v < 2 ^ 28) → Dec (digit b < 16) → joined (limited v) (digit b) ≡ limited (v * 16 + weight b)
+  join (yes l) (yes d) = fits l d
+  join (yes l) (no d) = no-digit l (omega arith)
+  join (no l) d = long (omega arith) (decLt v (2 ^ 32))
+
+pub hex-sum : (line : List ℕ) (from n : ℕ) → hex line from n ≡ limited (sum line from n)
+unfolding hex sum limited
+hex-sum line from zero = refl
+hex-sum line from (suc k) =
+    let v = sum line from k in let b = getD line (from + k) 0 in
+    rw (hex-sum line from k) (join v b (decLt v (2 ^ 28)) (decLt (digit b) 16))

@@ -1,0 +1,2 @@
+pub mod HexSum
+pub mod Variants

@@ -1,0 +1,11 @@
+use borrow.Author.Needs.{needs}
+use Rattle.frames.proofs.session.open_reply.Statement.{statement}
+use Rattle.frames.proofs.session.open_reply.Tie as tie
+
+returns : tie.Need-returns
+returns c = cc
+
+pub open-reply-spec : {M : Type 1} → statement M
+open-reply-spec =
+    tie.close
+    (tie.spec (λ c. search needs) (λ c κs. search needs) (λ c κs. search needs) (λ c κs. search needs) returns)

@@ -1,0 +1,20 @@
+use borrow.Author.Needs.{needs}
+use Rattle.frames.proofs.session.table_reply.Statement.{statement}
+use Rattle.frames.proofs.session.table_reply.Tie as tie
+
+returns : tie.Need-returns
+returns c = rw (c .before .before .found .given .1) (c .open-reply .ensures)
+
+returns-2 : tie.Need-returns-2
+returns-2 c = rw (c .before .enum-told .given .1) (c .refused-reply .ensures)
+
+pub table-reply-spec : {M : Type 1} → statement M
+table-reply-spec =
+    tie.close
+    (tie.spec
+    (λ c. search needs)
+    (λ c κs. search needs)
+    (λ c. search needs)
+    (λ c κs. search needs)
+    returns
+    returns-2)

@@ -1,0 +1,194 @@
+// The frame that a line is.
+use crate::digits;
+use crate::digits::NONE;
+use rules::Call;
+use rules::Frame;
+use rules::Plan;
+use rules::Reading;
+ghost use mathlib.Core.Path.{_≡_};
+ghost use Prim.Native.Nat.{_+_, _*_, _≤_};
+ghost use lib.ListN.{length};
+ghost use Rattle.rules.specs.Frames.{hex, word, spaced, bareFrame, oneWordFrame, tableFrame, openFrame, frameOf, readLine};
+
+fn spaced(space: u8, v: u64) -> u64
+    ensures { λ r. ⌜ r ≡ spaced space v ⌝ }
+{
+    if space == b' ' { v } else { NONE }
+}
+
+// Word j of a line.
+fn word(line: &[u8], j: usize) -> u64
+    requires { ⌜ 11 + 9 * j ≤ length (now line) ⌝ }
+    ensures { λ r. ⌜ r ≡ word (now (line .entry)) j ⌝ }
+{
+    let at = 2 + 9 * j;
+    spaced(line[at], digits::hex8(line, 3 + 9 * j))
+}
+
+fn bare_frame(code: u64) -> Reading
+    ensures { λ r. ⌜ r ≡ bareFrame code ⌝ }
+{
+    if code == 4 {
+        return Reading::Read(Frame::Call(Call::Interrupt));
+    }
+    if code == 5 {
+        return Reading::Read(Frame::Call(Call::CheckFind));
+    }
+    if code == 6 {
+        return Reading::Read(Frame::Call(Call::Tick));
+    }
+    if code == 7 {
+        return Reading::Read(Frame::Call(Call::Take));
+    }
+    Reading::Bad
+}
+
+fn one_word_frame(code: u64, a: u64) -> Reading
+    ensures { λ r. ⌜ r ≡ oneWordFrame code a ⌝ }
+{
+    if NONE <= a {
+        return Reading::Bad;
+    }
+    if code == 2 {
+        return Reading::Read(Frame::Call(Call::Unit(a as u32)));
+    }
+    if code == 3 {
+        return Reading::Read(Frame::Call(Call::Result(a as u32)));
+    }
+    Reading::Bad
+}
+
+fn table_frame(code: u64, kind: u64, letter: u64, aql: u64, period: u64, seed: u64) -> Reading
+    ensures { λ r. ⌜ r ≡ tableFrame code kind letter aql period seed ⌝ }
+{
+    if code != 8 {
+        return Reading::Bad;
+    }
+    if NONE <= kind {
+        return Reading::Bad;
+    }
+    if NONE <= letter {
+        return Reading::Bad;
+    }
+    if NONE <= aql {
+        return Reading::Bad;
+    }
+    if NONE <= period {
+        return Reading::Bad;
+    }
+    if NONE <= seed {
+        return Reading::Bad;
+    }
+    Reading::Read(Frame::OpenTable {
+        kind: kind as u32,
+        letter: letter as u32,
+        aql: aql as u32,
+        period: period as u32,
+        seed: seed as u32,
+    })
+}
+
+fn open_frame(
+    code: u64,
+    kind: u64,
+    n: u64,
+    i: u64,
+    s: u64,
+    x: u64,
+    period: u64,
+    seed: u64,
+) -> Reading
+    ensures { λ r. ⌜ r ≡ openFrame code kind n i s x period seed ⌝ }
+{
+    if code != 1 {
+        return Reading::Bad;
+    }
+    if NONE <= kind {
+        return Reading::Bad;
+    }
+    if NONE <= n {
+        return Reading::Bad;
+    }
+    if NONE <= i {
+        return Reading::Bad;
+    }
+    if NONE <= s {
+        return Reading::Bad;
+    }
+    if NONE <= x {
+        return Reading::Bad;
+    }
+    if NONE <= period {
+        return Reading::Bad;
+    }
+    if NONE <= seed {
+        return Reading::Bad;
+    }
+    let plan = Plan {
+        kind: kind as u32,
+        n: n as u32,
+        i: i as u32,
+        s: s as u32,
+        x: x as u32,
+        period: period as u32,
+    };
+    Reading::Read(Frame::Open {
+        plan: plan,
+        seed: seed as u32,
+    })
+}
+
+fn frame_of(line: &[u8]) -> Reading
+    ensures { λ r. ⌜ r ≡ frameOf (now (line .entry)) ⌝ }
+{
+    let n = line.len();
+    if n == 2 {
+        return bare_frame(digits::hex2(line, 0));
+    }
+    if n == 11 {
+        return one_word_frame(digits::hex2(line, 0), word(line, 0));
+    }
+    if n == 38 {
+        return table_frame(
+            digits::hex2(line, 0),
+            word(line, 0),
+            word(line, 1),
+            word(line, 2),
+            word(line, 3),
+            0,
+        );
+    }
+    if n == 47 {
+        return table_frame(
+            digits::hex2(line, 0),
+            word(line, 0),
+            word(line, 1),
+            word(line, 2),
+            word(line, 3),
+            word(line, 4),
+        );
+    }
+    if n == 65 {
+        return open_frame(
+            digits::hex2(line, 0),
+            word(line, 0),
+            word(line, 1),
+            word(line, 2),
+            word(line, 3),
+            word(line, 4),
+            word(line, 5),
+            word(line, 6),
+        );
+    }
+    Reading::Bad
+}
+
+// A line, its line feed left off; that it is over 80 characters is tested first.
+pub fn read_line(line: &[u8]) -> Reading
+    ensures { λ r. ⌜ r ≡ readLine (now (line .entry)) ⌝ }
+{
+    if 80 < line.len() {
+        return Reading::Bad;
+    }
+    frame_of(line)
+}

@@ -1,0 +1,73 @@
+// What a chunk of the input makes of the session, and the answers to the lines that end in it.
+use crate::lines::keep;
+use crate::lines::line_end;
+use crate::lines::put;
+use rules::Reply;
+use rules::Session;
+ghost use mathlib.Core.Path.{_≡_};
+ghost use mathlib.Core.List.{_++_};
+ghost use Prim.Native.Nat.{_+_, _*_, _≤_};
+ghost use lib.ListN.{length, take};
+ghost use Rattle.rules.specs.Frames.{reply};
+ghost use Rattle.recorder.specs.Course.{walk, heldMost};
+ghost use Rattle.recorder.specs.Walks.{Walks};
+
+// How much is held of a line that has not ended, and how many bytes were answered.
+pub struct Walked {
+    pub session: Session,
+    pub held: usize,
+    pub at: usize,
+}
+
+// The reply to a line of which some is held and the rest is s; a line that lies whole in the chunk is not copied.
+fn finish(session: Session, line: &mut [u8], held: usize, part: &[u8]) -> Reply
+    requires { ⌜ (length (now line) ≡ heldMost) × (held ≤ heldMost) ⌝ }
+    ensures { λ r. ⌜ r ≡ reply session (take held (now (line .entry)) ++ now (part .entry)) ⌝ }
+{
+    if held == 0 {
+        return frames::step(session, part);
+    }
+    let n = keep(line, held, part);
+    frames::step(session, &line[0..n])
+}
+
+// An answer put at an index.
+fn put_text(out: &mut [u8], at: usize, text: [u8; 33])
+    requires { ⌜ at + 33 ≤ length (now out) ⌝ }
+    ensures { λ _. ⌜ take (at + 33) (now (out .exit)) ≡ take at (now (out .entry)) ++ text ⌝ }
+{
+    put(out, at, &text, 33)
+}
+
+pub fn walk(session: Session, line: &mut [u8], held: usize, chunk: &[u8], out: &mut [u8]) -> Walked
+    requires { ⌜ (length (now line) ≡ heldMost) × (held ≤ heldMost) × (33 * length (now chunk) ≤ length (now out)) ⌝ }
+    ensures { λ r. ⌜ Walks (walk session (take held (now (line .entry))) (now (chunk .entry))) r (now (line .exit)) (now (out .exit)) ⌝ }
+{
+    let mut s = session;
+    let mut kept = held;
+    let mut at = 0;
+    let mut from = 0;
+    while from < chunk.len() {
+        let end = line_end(chunk, from);
+        if end == chunk.len() {
+            let more = keep(line, kept, &chunk[from..end]);
+            return Walked {
+                session: s,
+                held: more,
+                at: at,
+            };
+        }
+        let r = finish(s, line, kept, &chunk[from..end]);
+        let text = r.text;
+        put_text(out, at, text);
+        s = r.session;
+        kept = 0;
+        at += 33;
+        from = end + 1;
+    }
+    Walked {
+        session: s,
+        held: kept,
+        at: at,
+    }
+}
