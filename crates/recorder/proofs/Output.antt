@@ -123,7 +123,8 @@ unfolding answers walk final Alike
 in-parts s line [] = refl
 in-parts s line (part ∷ parts) =
     let w = walk s line part in
-    ap (λ (t : List ℕ). w .text ++ t) (in-parts (w .session) (take heldMost (w .line)) parts ∙ alike (w .session) (take heldMost (w .line)) (w .line) (whole parts) (capped (w .line)))
+    ap (λ (t : List ℕ). w .text ++ t) (in-parts (w .session) (take heldMost (w .line)) parts
+    ∙ alike (w .session) (take heldMost (w .line)) (w .line) (whole parts) (capped (w .line)))
     ∙ rw (joined s line part (whole parts), append-assoc)
   where
     capped : (p : List ℕ) → Alike (take heldMost p) p

@@ -6,7 +6,8 @@ use Rattle.probe.proofs.run.Statement.{statement}
 use Rattle.probe.proofs.run.Tie as tie
 
 abbrev Inv-loop : tie.InvT-loop
-Inv-loop chunk₀ head₀ queue₀ out₀ turns₀ scan₀ chunk head queue out turns scan = (length chunk ≡ length chunk₀) × (length queue ≡ length queue₀) × (length out ≡ length out₀)
+Inv-loop chunk₀ head₀ queue₀ out₀ turns₀ scan₀ chunk head queue out turns scan =
+    (length chunk ≡ length chunk₀) × (length queue ≡ length queue₀) × (length out ≡ length out₀)
 
 abbrev μ-loop : tie.MeasureT-loop
 μ-loop chunk₀ head₀ queue₀ out₀ turns₀ scan₀ chunk head queue out turns scan = turns

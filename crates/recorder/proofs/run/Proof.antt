@@ -7,7 +7,8 @@ use Rattle.recorder.proofs.run.Statement.{statement}
 use Rattle.recorder.proofs.run.Tie as tie
 
 abbrev Inv-loop : tie.InvT-loop
-Inv-loop chunk₀ line₀ out₀ turns₀ session₀ held₀ chunk line out turns session held = (length chunk ≡ length chunk₀) × (length line ≡ length line₀) × (length out ≡ length out₀) × (held ≤ heldMost)
+Inv-loop chunk₀ line₀ out₀ turns₀ session₀ held₀ chunk line out turns session held =
+    (length chunk ≡ length chunk₀) × (length line ≡ length line₀) × (length out ≡ length out₀) × (held ≤ heldMost)
 
 abbrev μ-loop : tie.MeasureT-loop
 μ-loop chunk₀ line₀ out₀ turns₀ session₀ held₀ chunk line out turns session held = turns

@@ -11,7 +11,12 @@ use Rattle.recorder.proofs.lines.keep.Statement.{statement}
 use Rattle.recorder.proofs.lines.keep.Tie as tie
 
 returns : tie.Need-returns
-returns c = let a = c .before .before .before .before .before .before .before .args in let n = c .before .before .before .before .least in (search needs, (ap (λ (l : List ℕ). take (a .before + n .result) l) (c .before .before .put .ensures) ∙ kept (now (a .line)) (now (a .part)) (a .before) (n .result) (omega arith) (omega arith) (sym (n .ensures .0)) (n .ensures .2)))
+returns c =
+    let n = c .before .before .before .before .least in let a = c .before .before .before .before .before .before .before .args in (
+      search needs,
+      (ap (λ (l : List ℕ). take (a .before + n .result) l) (c .before .before .put .ensures)
+          ∙ kept (now (a .line)) (now (a .part)) (a .before) (n .result) (omega arith) (omega arith) (sym (n .ensures .0)) (n .ensures .2)),
+    )
 
 pub keep-spec : {M : Type 1} → statement M
 keep-spec =

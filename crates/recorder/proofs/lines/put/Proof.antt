@@ -20,7 +20,13 @@ loop-holds : tie.Need-loop-holds Inv-loop μ-loop
 loop-holds c = (search needs, paste-zero (now (c .args .out)) (c .args .at) (now (c .args .text)), refl)
 
 loop-again : tie.Need-loop-again Inv-loop μ-loop
-loop-again c = let l = c .before .before in let a = l .before .args in let k = l .loop .k in let t = now (a .text) in (search needs, (ap (λ (x : List ℕ). set x (a .at + k) (getD t k 0)) (l .loop .inv .1) ∙ rw add-one (paste-suc (now (a .out)) (a .at) t k 0 (omega arith) (omega arith))), simp length-set (l .loop .inv .2))
+loop-again c =
+    let l = c .before .before in let a = l .before .args in let k = l .loop .k in let t = now (a .text) in (
+      search needs,
+      (ap (λ (x : List ℕ). set x (a .at + k) (getD t k 0)) (l .loop .inv .1)
+          ∙ rw add-one (paste-suc (now (a .out)) (a .at) t k 0 (omega arith) (omega arith))),
+      simp length-set (l .loop .inv .2),
+    )
 
 returns : tie.Need-returns Inv-loop μ-loop
 returns c = let e : c .before .loop .k ≡ c .before .before .args .n = omega arith in cc

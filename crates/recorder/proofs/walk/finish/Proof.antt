@@ -15,7 +15,9 @@ returns : tie.Need-returns
 returns c = rw (c .before .if1 .taken) (c .step .ensures)
 
 returns-2 : tie.Need-returns-2
-returns-2 c = let s = c .before .before .before .before .before .before .before .before .before .before .args .session in (simp sub-zero at (c .step2 .ensures) ∙ ap (λ (l : List ℕ). reply s l) (c .before .before .before .before .before .keep .ensures .1) ∙ reply-held s _)
+returns-2 c =
+    let k = c .before .before .before .before .before in let s = k .before .before .before .before .before .args .session in
+    (simp sub-zero at (c .step2 .ensures) ∙ ap (λ (l : List ℕ). reply s l) (k .keep .ensures .1) ∙ reply-held s _)
 
 pub finish-spec : {M : Type 1} → statement M
 finish-spec =
