@@ -106,8 +106,33 @@ fn printed(v: Values) -> [u8; 33]
     ]
 }
 
+// The lines of an answer that is done, and of an order to inspect: most answers are one of these two, and nothing is computed for
+// them.
+fn done_line() -> [u8; 33]
+    ensures { λ r. ⌜ r ≡ printed (values 0 0 0 0 0) ⌝ }
+{
+    *b"00 00 00000000 00000000 00000000\n"
+}
+
+fn inspect_line() -> [u8; 33]
+    ensures { λ r. ⌜ r ≡ printed (values 0 0 0 0 1) ⌝ }
+{
+    *b"00 00 00000000 00000000 00000001\n"
+}
+
+fn order_line(inspect: bool) -> [u8; 33]
+    ensures { λ r. ⌜ r ≡ printed (values 0 0 0 0 (one inspect)) ⌝ }
+{
+    if inspect { inspect_line() } else { done_line() }
+}
+
 pub fn answer_line(a: Answer) -> [u8; 33]
     ensures { λ r. ⌜ r ≡ answerLine a ⌝ }
 {
-    printed(answer_values(a))
+    match a {
+        Answer::Done => done_line(),
+        Answer::Nothing => done_line(),
+        Answer::Ordered(inspect) => order_line(inspect),
+        _ => printed(answer_values(a)),
+    }
 }

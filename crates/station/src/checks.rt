@@ -4,8 +4,6 @@ use rules::Phase;
 use rules::Plan;
 use rules::Refusal;
 use rules::Station;
-use rules::Stream;
-use rules::Tally;
 use rules::Verdict;
 ghost use mathlib.Core.Path.{_≡_};
 ghost use Rattle.rules.specs.Calls.{refuseIf, noQueue, wrongQueue, numbersSpent, nothingToFind, openChecks, queueChecks, numbersCheck, owedCheck, unitChecks, resultChecks, findChecks};
@@ -70,30 +68,28 @@ pub fn queue_checks(s: Station, len: usize, own: Verdict) -> Verdict
     )
 }
 
-pub fn numbers_check(next: u32, rest: Verdict) -> Verdict
-    ensures { λ r. ⌜ r ≡ numbersCheck next rest ⌝ }
+pub fn numbers_check(s: Station, rest: Verdict) -> Verdict
+    ensures { λ r. ⌜ r ≡ numbersCheck (s .numbers .next) rest ⌝ }
 {
-    refuse_if(numbers_spent(next), Refusal::NumbersSpent, rest)
+    refuse_if(numbers_spent(s.numbers.next), Refusal::NumbersSpent, rest)
 }
 
-pub fn owed_check(next: u32, t: Tally, rest: Verdict) -> Verdict
-    ensures { λ r. ⌜ r ≡ owedCheck next t rest ⌝ }
+pub fn owed_check(s: Station, rest: Verdict) -> Verdict
+    ensures { λ r. ⌜ r ≡ owedCheck (s .numbers .next) (s .stream .tally) rest ⌝ }
 {
-    numbers_check(next, refuse_if(t.owed, Refusal::ResultOwed, rest))
+    numbers_check(s, refuse_if(s.stream.tally.owed, Refusal::ResultOwed, rest))
 }
 
-pub fn unit_checks(p: Plan, s: Stream, next: u32, k: u32) -> Verdict
-    ensures { λ r. ⌜ r ≡ unitChecks p s next k ⌝ }
+pub fn unit_checks(s: Station, k: u32) -> Verdict
+    ensures { λ r. ⌜ r ≡ unitChecks (s .plan) (s .stream) (s .numbers .next) k ⌝ }
 {
-    let t = s.tally;
     owed_check(
-        next,
-        t,
+        s,
         refuse_if(
-            k <= t.last,
+            k <= s.stream.tally.last,
             Refusal::NotAboveLast,
             refuse_if(
-                record::unit_limit(p) < k,
+                record::unit_limit(s.plan) < k,
                 Refusal::AboveLimit,
                 Verdict::Accept,
             ),
@@ -101,27 +97,26 @@ pub fn unit_checks(p: Plan, s: Stream, next: u32, k: u32) -> Verdict
     )
 }
 
-pub fn result_checks(s: Stream, next: u32, r: u32) -> Verdict
-    ensures { λ v. ⌜ v ≡ resultChecks s next r ⌝ }
+pub fn result_checks(s: Station, r: u32) -> Verdict
+    ensures { λ v. ⌜ v ≡ resultChecks (s .stream) (s .numbers .next) r ⌝ }
 {
     numbers_check(
-        next,
+        s,
         refuse_if(
             1 < r,
             Refusal::IllFormed,
-            refuse_if(!s.tally.owed, Refusal::NoResultOwed, Verdict::Accept),
+            refuse_if(!s.stream.tally.owed, Refusal::NoResultOwed, Verdict::Accept),
         ),
     )
 }
 
-pub fn find_checks(s: Stream, next: u32) -> Verdict
-    ensures { λ r. ⌜ r ≡ findChecks s next ⌝ }
+pub fn find_checks(s: Station) -> Verdict
+    ensures { λ r. ⌜ r ≡ findChecks (s .stream) (s .numbers .next) ⌝ }
 {
-    let phase = s.phase;
-    let t = s.tally;
+    let stream = s.stream;
+    let phase = stream.phase;
     owed_check(
-        next,
-        t,
+        s,
         refuse_if(
             nothing_to_find(phase),
             Refusal::NothingToFind,
