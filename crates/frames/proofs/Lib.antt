@@ -1,2 +1,3 @@
 pub mod HexSum
+pub mod Replies
 pub mod Variants

@@ -2,6 +2,7 @@
 use mathlib.Core.Path.{_≡_, refl}
 use mathlib.Core.Bool.{true, false}
 use mathlib.Core.List.{List, [], _∷_}
+use Prim.Native.Nat.{ℕ}
 use denote.Enum.Declared.{tagOf}
 use types.Run.{OneOf, miss}
 use Rattle.rules.specs.Frames.{accepted, frameReply, refusedReply}
@@ -10,7 +11,9 @@ use Rattle.rules.specs.declared.Answer.{Answer}
 use Rattle.rules.specs.declared.Answer.the-variants.{Refused, Done, Ordered, Held, Gap, Nothing}
 use Rattle.rules.specs.declared.Frame.{Frame}
 use Rattle.rules.specs.declared.Frame.the-variants.{Open, OpenTable, Call}
-use Rattle.rules.specs.declared.Session.{Session}
+use Rattle.frames.specs.Replies.{Gives, sessionOf}
+use Rattle.frames.specs.declared.session.Standing.{Standing}
+use Rattle.frames.specs.declared.session.Replied.{Replied}
 use Rattle.rules.proofs.Answer as answer
 use Rattle.rules.proofs.Frame as frame
 
@@ -22,7 +25,8 @@ not-refused (Held e) k = refl
 not-refused (Gap first count) k = refl
 not-refused Nothing k = refl
 
-pub open-again : (s : Session) (f : Frame) → OneOf (0 ∷ 1 ∷ []) (tagOf frame.the-type f) → refusedReply s IllFormed ≡ frameReply true s f
-open-again s (Open p seed) k = refl
-open-again s (OpenTable kind letter aql period seed) k = refl
-open-again s (Call c) k = absurd (miss (0 ∷ 1 ∷ []) 2 tt k)
+pub gives-again : (s : Standing) (queue : List ℕ) (f : Frame) (p : Replied) → OneOf (0 ∷ 1 ∷ []) (tagOf frame.the-type f)
+    → Gives (refusedReply (sessionOf s queue) IllFormed) p queue → Gives (frameReply true (sessionOf s queue) f) p queue
+gives-again s queue (Open plan seed) p k g = g
+gives-again s queue (OpenTable kind letter aql period seed) p k g = g
+gives-again s queue (Call c) p k g = absurd (miss (0 ∷ 1 ∷ []) 2 tt k)

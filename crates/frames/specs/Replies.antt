@@ -1,15 +1,16 @@
--- A call's turn and the queue after it, put into the session.
+-- What a line makes of a session whose queue is lent beside it.
 use Prim.Native.Nat.{ℕ}
-use mathlib.Core.Bool.{Bool}
 use mathlib.Core.List.{List}
-use Rattle.rules.specs.Frames.{answerLine}
-use Rattle.rules.specs.declared.Turn.{Turn}
+use mathlib.Core.Path.{_≡_}
 use Rattle.rules.specs.declared.Session.{Session}
 use Rattle.rules.specs.declared.Reply.{Reply}
+use Rattle.frames.specs.declared.session.Standing.{Standing}
+use Rattle.frames.specs.declared.session.Replied.{Replied}
 
-abbrev pub turnReply : Bool → Turn → List ℕ → Reply
-turnReply opened t queue =
-    record {
-      session = record { opened = opened; station = t .station; queue = queue };
-      text = answerLine (t .answer);
-    }
+abbrev pub sessionOf : Standing → List ℕ → Session
+sessionOf s queue = record { opened = s .opened; station = s .station; queue = queue }
+
+-- the standing and the queue afterwards are those of the reply, and so is the line
+pub record Gives (p : Reply) (r : Replied) (queue : List ℕ) : Type 0 where
+  pub session : sessionOf (r .standing) queue ≡ p .session
+  pub text : r .text ≡ p .text

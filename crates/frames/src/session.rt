@@ -1,4 +1,4 @@
-// A run of the program: the station, its queue, and what a line makes of them.
+// A run of the program: the station, its queue, and what a line makes of them. The queue is lent: no line copies it.
 use crate::printing::answer_line;
 use crate::reading::read_line;
 use rules::Answer;
@@ -10,9 +10,7 @@ use rules::Phase;
 use rules::Plan;
 use rules::Reading;
 use rules::Refusal;
-use rules::Reply;
 use rules::Screening;
-use rules::Session;
 use rules::Silence;
 use rules::Station;
 use rules::Stream;
@@ -20,9 +18,21 @@ use rules::Tally;
 use rules::Turn;
 ghost use mathlib.Core.Path.{_≡_};
 ghost use mathlib.Core.Bool.{true, false};
-ghost use Rattle.rules.specs.Calls.{Meets, noStation, openCall, outcome};
-ghost use Rattle.rules.specs.Frames.{newSession, accepted, refusedReply, openReply, replyWith, tableReply, frameReply, reply};
-ghost use Rattle.frames.specs.Replies.{turnReply};
+ghost use Rattle.rules.specs.Calls.{noStation, openCall, outcome};
+ghost use Rattle.rules.specs.Frames.{newSession, answerLine, accepted, openReply, replyWith, tableReply, frameReply, reply};
+ghost use Rattle.frames.specs.Replies.{Gives, sessionOf};
+
+// Whether an open was accepted, and the station; with the queue beside it this is the session.
+pub struct Standing {
+    pub opened: bool,
+    pub station: Station,
+}
+
+// What a line makes of the standing, and the line that is printed.
+pub struct Replied {
+    pub standing: Standing,
+    pub text: [u8; 33],
+}
 
 fn no_station() -> Station
     ensures { λ r. ⌜ r ≡ noStation ⌝ }
@@ -66,16 +76,20 @@ fn no_station() -> Station
     }
 }
 
-pub fn new_session() -> Session
-    ensures { λ r. ⌜ r ≡ newSession ⌝ }
+pub fn new_standing() -> Standing
+    ensures { λ r. ⌜ sessionOf r (newSession .queue) ≡ newSession ⌝ }
 {
     let station = no_station();
-    let queue = [0u32; 24];
-    Session {
+    Standing {
         opened: false,
         station: station,
-        queue: queue,
     }
+}
+
+pub fn new_queue() -> [u32; 24]
+    ensures { λ r. ⌜ r ≡ newSession .queue ⌝ }
+{
+    [0u32; 24]
 }
 
 fn accepted(a: Answer) -> bool
@@ -88,115 +102,99 @@ fn accepted(a: Answer) -> bool
     }
 }
 
-fn refused_reply(session: Session, r: Refusal) -> Reply
-    ensures { λ p. ⌜ p ≡ refusedReply session r ⌝ }
+fn refused_reply(s: Standing, r: Refusal) -> Replied
+    ensures { λ p. ⌜ (p .standing ≡ s) × (p .text ≡ answerLine (Answer.Refused r)) ⌝ }
 {
     let text = answer_line(Answer::Refused(r));
-    Reply {
-        session: session,
+    Replied {
+        standing: s,
         text: text,
     }
 }
 
-// A call's turn and the queue after it, put into the session.
-fn turn_reply(opened: bool, turn: Turn, queue: [u32; 24]) -> Reply
-    ensures { λ r. ⌜ r ≡ turnReply opened turn queue ⌝ }
+// A call's turn, put into the standing.
+fn turn_reply(opened: bool, turn: Turn) -> Replied
+    ensures { λ r. ⌜ (r .standing ≡ record { opened = opened; station = turn .station }) × (r .text ≡ answerLine (turn .answer)) ⌝ }
 {
     let station = turn.station;
     let answer = turn.answer;
     let text = answer_line(answer);
-    let session = Session {
+    let standing = Standing {
         opened: opened,
         station: station,
-        queue: queue,
     };
-    Reply {
-        session: session,
+    Replied {
+        standing: standing,
         text: text,
     }
 }
 
-fn open_reply(session: Session, plan: Plan, seed: u32) -> Reply
-    ensures { λ r. ⌜ r ≡ openReply (openCall plan seed (session .queue)) ⌝ }
+fn open_reply(q: &mut [u32], plan: Plan, seed: u32) -> Replied
+    ensures { λ r. ⌜ Gives (openReply (openCall plan seed (now (q .entry)))) r (now (q .exit)) ⌝ }
 {
-    let mut queue = session.queue;
-    let turn = station::open(plan, seed, &mut queue);
+    let turn = station::open(plan, seed, q);
     let answer = turn.answer;
-    turn_reply(accepted(answer), turn, queue)
+    turn_reply(accepted(answer), turn)
 }
 
-fn table_reply(session: Session, found: Found, seed: u32) -> Reply
-    ensures { λ r. ⌜ r ≡ tableReply session seed found ⌝ }
+fn table_reply(s: Standing, q: &mut [u32], found: Found, seed: u32) -> Replied
+    ensures { λ r. ⌜ Gives (tableReply (sessionOf s (now (q .entry))) seed found) r (now (q .exit)) ⌝ }
 {
     match found {
-        Found::Plan(plan) => open_reply(session, plan, seed),
-        Found::Absent => refused_reply(session, Refusal::PlanOutOfRange),
+        Found::Plan(plan) => open_reply(q, plan, seed),
+        Found::Absent => refused_reply(s, Refusal::PlanOutOfRange),
     }
 }
 
-fn call_turn(s: Station, q: &mut [u32], call: Call) -> Turn
-    ensures { λ r. ⌜ Meets (outcome call s (now (q .entry))) r (now (q .exit)) ⌝ }
+fn call_reply(s: Standing, q: &mut [u32], call: Call) -> Replied
+    ensures { λ r. ⌜ Gives (replyWith true (outcome call (s .station) (now (q .entry)))) r (now (q .exit)) ⌝ }
 {
-    match call {
-        Call::Unit(k) => station::unit(s, q, k),
-        Call::Result(r) => station::result(s, q, r),
-        Call::Interrupt => station::interrupt(s, q),
-        Call::CheckFind => station::check_find(s, q),
-        Call::Tick => station::tick(s, q),
-        Call::Take => station::take(s, q),
-    }
-}
-
-fn call_reply(session: Session, call: Call) -> Reply
-    ensures { λ r. ⌜ r ≡ replyWith true (outcome call (session .station) (session .queue)) ⌝ }
-{
-    let mut queue = session.queue;
-    let turn = call_turn(session.station, &mut queue, call);
-    turn_reply(true, turn, queue)
+    let turn = station::outcome(call, s.station, q);
+    turn_reply(true, turn)
 }
 
 // Before an accepted open only an open is taken, and after it only another call.
-fn first_reply(session: Session, frame: Frame) -> Reply
-    ensures { λ r. ⌜ r ≡ frameReply false session frame ⌝ }
+fn first_reply(s: Standing, q: &mut [u32], frame: Frame) -> Replied
+    ensures { λ r. ⌜ Gives (frameReply false (sessionOf s (now (q .entry))) frame) r (now (q .exit)) ⌝ }
 {
     match frame {
-        Frame::Open { plan, seed } => open_reply(session, plan, seed),
+        Frame::Open { plan, seed } => open_reply(q, plan, seed),
         Frame::OpenTable {
             kind,
             letter,
             aql,
             period,
             seed,
-        } => { table_reply(session, tables::look_up(kind, letter, aql, period), seed) }
-        Frame::Call(_) => refused_reply(session, Refusal::UnsoundRecord),
+        } => { table_reply(s, q, tables::look_up(kind, letter, aql, period), seed) }
+        Frame::Call(_) => refused_reply(s, Refusal::UnsoundRecord),
     }
 }
 
-fn next_reply(session: Session, frame: Frame) -> Reply
-    ensures { λ r. ⌜ r ≡ frameReply true session frame ⌝ }
+fn next_reply(s: Standing, q: &mut [u32], frame: Frame) -> Replied
+    ensures { λ r. ⌜ Gives (frameReply true (sessionOf s (now (q .entry))) frame) r (now (q .exit)) ⌝ }
 {
     let Frame::Call(call) = frame else {
-        return refused_reply(session, Refusal::IllFormed);
+        return refused_reply(s, Refusal::IllFormed);
     };
-    call_reply(session, call)
+    call_reply(s, q, call)
 }
 
-fn frame_reply(session: Session, frame: Frame) -> Reply
-    ensures { λ r. ⌜ r ≡ frameReply (session .opened) session frame ⌝ }
+fn frame_reply(s: Standing, q: &mut [u32], frame: Frame) -> Replied
+    ensures { λ r. ⌜ Gives (frameReply (s .opened) (sessionOf s (now (q .entry))) frame) r (now (q .exit)) ⌝ }
 {
-    if session.opened {
-        return next_reply(session, frame);
+    if s.opened {
+        return next_reply(s, q, frame);
     }
-    first_reply(session, frame)
+    first_reply(s, q, frame)
 }
 
 // What the program makes of a line that a line feed ended.
-pub fn step(session: Session, line: &[u8]) -> Reply
-    ensures { λ r. ⌜ r ≡ reply session (now (line .entry)) ⌝ }
+pub fn step(s: Standing, q: &mut [u32], line: &[u8]) -> Replied
+    ensures { λ r. ⌜ Gives (reply (sessionOf s (now (q .entry))) (now (line .entry))) r (now (q .exit)) ⌝ }
 {
     let read = read_line(line);
     let Reading::Read(frame) = read else {
-        return refused_reply(session, Refusal::IllFormed);
+        return refused_reply(s, Refusal::IllFormed);
     };
-    frame_reply(session, frame)
+    frame_reply(s, q, frame)
 }

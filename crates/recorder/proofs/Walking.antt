@@ -1,5 +1,5 @@
 -- How a walk goes over a line, and what is held of one. Assumes nothing.
-use mathlib.Core.Path.{_≡_, refl, sym, ap, _∙_}
+use mathlib.Core.Path.{_≡_, refl, sym, ap, subst, _∙_}
 use mathlib.Core.List.{List, [], _∷_, _++_, append-nil, append-assoc}
 use Prim.Native.Nat.{ℕ, zero, suc, _+_, _-_, _<_, _≤_, min}
 use native.Mathlib.Decide.{decLt}
@@ -12,6 +12,8 @@ use Rattle.rules.specs.Frames.{readLine, reply, readingReply}
 use Rattle.rules.specs.declared.Reading.{Reading}
 use Rattle.rules.specs.declared.Reply.{Reply}
 use Rattle.rules.specs.declared.Session.{Session}
+use Rattle.frames.specs.Replies.{Gives, sessionOf}
+use Rattle.frames.specs.declared.session.Replied.{Replied}
 use Rattle.recorder.specs.Course.{Course, heldMost, after, walk, LineEnd}
 
 -- a line and as much of it as is held are read alike
@@ -24,6 +26,11 @@ read-held line (no l) = rw (take-all heldMost line (omega arith))
 
 pub reply-held : (s : Session) (line : List ℕ) → reply s (take heldMost line) ≡ reply s line
 reply-held s line = ap (λ (r : Reading). readingReply s r) (read-held line (decLt heldMost (length line)))
+
+pub gives-held : (s : Session) (held line queue : List ℕ) (r : Replied) → held ≡ take heldMost line → Gives (reply s held) r queue
+    → Gives (reply s line) r queue
+gives-held s held line queue r e g =
+    subst (λ (p : Reply). Gives p r queue) (ap (λ (l : List ℕ). reply s l) e ∙ reply-held s line) g
 
 -- what is held after another part
 module _ (line part : List ℕ) (before n : ℕ) (len : length line ≡ heldMost) (most : before ≤ heldMost) where
@@ -77,9 +84,10 @@ module _ (s : Session) (line chunk : List ℕ) (from end : ℕ) (e : LineEnd chu
 -- a line that ended: its answer comes after those before it
 module _ (w : Course) (s : Session) (line chunk before : List ℕ) (from end : ℕ) (e : LineEnd chunk from end)
     (h : w ≡ after before (walk s line (drop from chunk))) where
-  pub answered : (r : Reply) (told : List ℕ) → r ≡ reply s (line ++ take (end - from) (drop from chunk)) → told ≡ before ++ r .text
-      → end < length chunk → w ≡ after told (walk (r .session) [] (drop (end + 1) chunk))
-  answered r told q t l = h ∙ rw (t, ended s line chunk from end e l, ← q, append-assoc)
+  pub answered : (r : Replied) (queue told : List ℕ) → Gives (reply s (line ++ take (end - from) (drop from chunk))) r queue
+      → told ≡ before ++ r .text → end < length chunk
+      → w ≡ after told (walk (sessionOf (r .standing) queue) [] (drop (end + 1) chunk))
+  answered r queue told g t l = h ∙ rw (t, ended s line chunk from end e l, g .text, g .session, append-assoc)
 
   -- a line that has not ended is all that is left
   pub left : end ≡ length chunk → w ≡ record { session = s; line = line ++ take (end - from) (drop from chunk); text = before }

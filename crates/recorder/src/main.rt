@@ -2,11 +2,11 @@
 mod lines;
 mod walk;
 
+use frames::Standing;
 use libc::STDIN_FILENO;
 use libc::STDOUT_FILENO;
 use rules::Answer;
 use rules::Refusal;
-use rules::Session;
 use walk::walk;
 ghost use mathlib.Core.Path.{_≡_};
 ghost use Prim.Native.Nat.{_*_, _≤_};
@@ -21,7 +21,7 @@ struct Moved {
 
 // The run between two reads; held is how much is held of a line that has not ended.
 struct Turned {
-    session: Session,
+    standing: Standing,
     held: usize,
     on: bool,
 }
@@ -73,7 +73,14 @@ fn end(held: usize) {
 }
 
 // One read, and the answers to the lines that it ended in one write.
-fn turn(session: Session, held: usize, chunk: &mut [u8], line: &mut [u8], out: &mut [u8]) -> Turned
+fn turn(
+    standing: Standing,
+    q: &mut [u32],
+    held: usize,
+    chunk: &mut [u8],
+    line: &mut [u8],
+    out: &mut [u8],
+) -> Turned
     requires { ⌜ (length (now line) ≡ heldMost) × (held ≤ heldMost) × (33 * length (now chunk) ≤ length (now out)) ⌝ }
     ensures { λ r. ⌜ r .held ≤ heldMost ⌝ }
 {
@@ -83,34 +90,34 @@ fn turn(session: Session, held: usize, chunk: &mut [u8], line: &mut [u8], out: &
             end(held);
         }
         return Turned {
-            session: session,
+            standing: standing,
             held: held,
             on: got.again,
         };
     }
     let n = got.bytes;
-    let w = walk(session, line, held, &chunk[0..n], out);
+    let w = walk(standing, q, line, held, &chunk[0..n], out);
     let at = w.at;
-    let s = w.session;
+    let s = w.standing;
     Turned {
-        session: s,
+        standing: s,
         held: w.held,
         on: write_all(&out[0..at]),
     }
 }
 
-fn run(chunk: &mut [u8], line: &mut [u8], out: &mut [u8])
+fn run(q: &mut [u32], chunk: &mut [u8], line: &mut [u8], out: &mut [u8])
     requires { ⌜ (length (now line) ≡ heldMost) × (33 * length (now chunk) ≤ length (now out)) ⌝ }
 {
     let mut turns = u64::MAX;
-    let mut session = frames::new_session();
+    let mut standing = frames::new_standing();
     let mut held = 0;
     while 0 < turns {
-        let t = turn(session, held, chunk, line, out);
+        let t = turn(standing, q, held, chunk, line, out);
         if !t.on {
             return;
         }
-        session = t.session;
+        standing = t.standing;
         held = t.held;
         turns -= 1;
     }
@@ -133,5 +140,6 @@ fn main() {
     let mut chunk = chunk_space();
     let mut out = out_space();
     let mut line = [0u8; 81];
-    run(&mut chunk, &mut line, &mut out);
+    let mut queue = frames::new_queue();
+    run(&mut queue, &mut chunk, &mut line, &mut out);
 }

@@ -2,33 +2,34 @@
 use crate::lines::keep;
 use crate::lines::line_end;
 use crate::lines::put;
-use rules::Reply;
-use rules::Session;
+use frames::Replied;
+use frames::Standing;
 ghost use mathlib.Core.Path.{_≡_};
 ghost use mathlib.Core.List.{_++_};
 ghost use Prim.Native.Nat.{_+_, _*_, _≤_};
 ghost use lib.ListN.{length, take};
 ghost use Rattle.rules.specs.Frames.{reply};
+ghost use Rattle.frames.specs.Replies.{Gives, sessionOf};
 ghost use Rattle.recorder.specs.Course.{walk, heldMost};
 ghost use Rattle.recorder.specs.Walks.{Walks};
 
 // How much is held of a line that has not ended, and how many bytes were answered.
 pub struct Walked {
-    pub session: Session,
+    pub standing: Standing,
     pub held: usize,
     pub at: usize,
 }
 
 // The reply to a line of which some is held and the rest is s; a line that lies whole in the chunk is not copied.
-fn finish(session: Session, line: &mut [u8], held: usize, part: &[u8]) -> Reply
+fn finish(s: Standing, q: &mut [u32], line: &mut [u8], held: usize, part: &[u8]) -> Replied
     requires { ⌜ (length (now line) ≡ heldMost) × (held ≤ heldMost) ⌝ }
-    ensures { λ r. ⌜ r ≡ reply session (take held (now (line .entry)) ++ now (part .entry)) ⌝ }
+    ensures { λ r. ⌜ Gives (reply (sessionOf s (now (q .entry))) (take held (now (line .entry)) ++ now (part .entry))) r (now (q .exit)) ⌝ }
 {
     if held == 0 {
-        return frames::step(session, part);
+        return frames::step(s, q, part);
     }
     let n = keep(line, held, part);
-    frames::step(session, &line[0..n])
+    frames::step(s, q, &line[0..n])
 }
 
 // An answer put at an index.
@@ -39,11 +40,18 @@ fn put_text(out: &mut [u8], at: usize, text: [u8; 33])
     put(out, at, &text, 33)
 }
 
-pub fn walk(session: Session, line: &mut [u8], held: usize, chunk: &[u8], out: &mut [u8]) -> Walked
+pub fn walk(
+    standing: Standing,
+    q: &mut [u32],
+    line: &mut [u8],
+    held: usize,
+    chunk: &[u8],
+    out: &mut [u8],
+) -> Walked
     requires { ⌜ (length (now line) ≡ heldMost) × (held ≤ heldMost) × (33 * length (now chunk) ≤ length (now out)) ⌝ }
-    ensures { λ r. ⌜ Walks (walk session (take held (now (line .entry))) (now (chunk .entry))) r (now (line .exit)) (now (out .exit)) ⌝ }
+    ensures { λ r. ⌜ Walks (walk (sessionOf standing (now (q .entry))) (take held (now (line .entry))) (now (chunk .entry))) r (now (q .exit)) (now (line .exit)) (now (out .exit)) ⌝ }
 {
-    let mut s = session;
+    let mut s = standing;
     let mut kept = held;
     let mut at = 0;
     let mut from = 0;
@@ -52,21 +60,21 @@ pub fn walk(session: Session, line: &mut [u8], held: usize, chunk: &[u8], out: &
         if end == chunk.len() {
             let more = keep(line, kept, &chunk[from..end]);
             return Walked {
-                session: s,
+                standing: s,
                 held: more,
                 at: at,
             };
         }
-        let r = finish(s, line, kept, &chunk[from..end]);
+        let r = finish(s, q, line, kept, &chunk[from..end]);
         let text = r.text;
         put_text(out, at, text);
-        s = r.session;
+        s = r.standing;
         kept = 0;
         at += 33;
         from = end + 1;
     }
     Walked {
-        session: s,
+        standing: s,
         held: kept,
         at: at,
     }

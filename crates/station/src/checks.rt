@@ -1,4 +1,5 @@
 // Document 01, "Calls and their checks": each call's checks in the document's order.
+use rules::Call;
 use rules::EVENTS_END;
 use rules::Phase;
 use rules::Plan;
@@ -6,7 +7,7 @@ use rules::Refusal;
 use rules::Station;
 use rules::Verdict;
 ghost use mathlib.Core.Path.{_≡_};
-ghost use Rattle.rules.specs.Calls.{refuseIf, noQueue, wrongQueue, numbersSpent, nothingToFind, openChecks, queueChecks, numbersCheck, owedCheck, unitChecks, resultChecks, findChecks};
+ghost use Rattle.rules.specs.Calls.{refuseIf, noQueue, wrongQueue, numbersSpent, nothingToFind, openChecks, queueChecks, numbersCheck, owedCheck, unitChecks, resultChecks, findChecks, ownChecks};
 
 fn refuse_if(fault: bool, r: Refusal, otherwise: Verdict) -> Verdict
     ensures { λ v. ⌜ v ≡ refuseIf fault r otherwise ⌝ }
@@ -68,19 +69,19 @@ pub fn queue_checks(s: Station, len: usize, own: Verdict) -> Verdict
     )
 }
 
-pub fn numbers_check(s: Station, rest: Verdict) -> Verdict
+fn numbers_check(s: Station, rest: Verdict) -> Verdict
     ensures { λ r. ⌜ r ≡ numbersCheck (s .numbers .next) rest ⌝ }
 {
     refuse_if(numbers_spent(s.numbers.next), Refusal::NumbersSpent, rest)
 }
 
-pub fn owed_check(s: Station, rest: Verdict) -> Verdict
+fn owed_check(s: Station, rest: Verdict) -> Verdict
     ensures { λ r. ⌜ r ≡ owedCheck (s .numbers .next) (s .stream .tally) rest ⌝ }
 {
     numbers_check(s, refuse_if(s.stream.tally.owed, Refusal::ResultOwed, rest))
 }
 
-pub fn unit_checks(s: Station, k: u32) -> Verdict
+fn unit_checks(s: Station, k: u32) -> Verdict
     ensures { λ r. ⌜ r ≡ unitChecks (s .plan) (s .stream) (s .numbers .next) k ⌝ }
 {
     owed_check(
@@ -97,7 +98,7 @@ pub fn unit_checks(s: Station, k: u32) -> Verdict
     )
 }
 
-pub fn result_checks(s: Station, r: u32) -> Verdict
+fn result_checks(s: Station, r: u32) -> Verdict
     ensures { λ v. ⌜ v ≡ resultChecks (s .stream) (s .numbers .next) r ⌝ }
 {
     numbers_check(
@@ -110,7 +111,7 @@ pub fn result_checks(s: Station, r: u32) -> Verdict
     )
 }
 
-pub fn find_checks(s: Station) -> Verdict
+fn find_checks(s: Station) -> Verdict
     ensures { λ r. ⌜ r ≡ findChecks (s .stream) (s .numbers .next) ⌝ }
 {
     let stream = s.stream;
@@ -123,4 +124,18 @@ pub fn find_checks(s: Station) -> Verdict
             Verdict::Accept,
         ),
     )
+}
+
+// The checks of a call after 1 and 2.
+pub fn own_checks(call: Call, s: Station) -> Verdict
+    ensures { λ r. ⌜ r ≡ ownChecks call (s .plan) (s .stream) (s .numbers .next) ⌝ }
+{
+    match call {
+        Call::Unit(k) => unit_checks(s, k),
+        Call::Result(r) => result_checks(s, r),
+        Call::Interrupt => owed_check(s, Verdict::Accept),
+        Call::CheckFind => find_checks(s),
+        Call::Tick => numbers_check(s, Verdict::Accept),
+        Call::Take => Verdict::Accept,
+    }
 }

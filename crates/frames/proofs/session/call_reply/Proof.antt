@@ -1,10 +1,11 @@
+use mathlib.Core.Bool.{true}
+use Rattle.frames.proofs.Replies.{gives-turn}
 use borrow.Author.Needs.{needs}
 use Rattle.frames.proofs.session.call_reply.Statement.{statement}
 use Rattle.frames.proofs.session.call_reply.Tie as tie
 
 returns : tie.Need-returns
-returns c = cc
+returns c = gives-turn _ _ _ _ (c .before .before .before .outcome .ensures) true (c .turn-reply .ensures)
 
 pub call-reply-spec : {M : Type 1} → statement M
-call-reply-spec =
-    tie.close (tie.spec (λ c. search needs) (λ c κs. search needs) (λ c κs. search needs) returns)
+call-reply-spec = tie.close (tie.spec (λ c κs. search needs) (λ c κs. search needs) (λ c. search needs) returns)

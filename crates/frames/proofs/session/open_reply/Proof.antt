@@ -1,11 +1,17 @@
+use Rattle.frames.proofs.Replies.{gives-open}
 use borrow.Author.Needs.{needs}
 use Rattle.frames.proofs.session.open_reply.Statement.{statement}
 use Rattle.frames.proofs.session.open_reply.Tie as tie
 
 returns : tie.Need-returns
-returns c = cc
+returns c = gives-open _ _ _ _ (c .before .before .before .before .«open» .ensures) _ (c .before .accepted .ensures) (c .turn-reply .ensures)
 
 pub open-reply-spec : {M : Type 1} → statement M
 open-reply-spec =
     tie.close
-    (tie.spec (λ c. search needs) (λ c κs. search needs) (λ c κs. search needs) (λ c κs. search needs) returns)
+    (tie.spec
+    (λ c κs. search needs)
+    (λ c κs. search needs)
+    (λ c κs. search needs)
+    (λ c. search needs)
+    returns)

@@ -1,12 +1,15 @@
+use Rattle.rules.specs.declared.Refusal.the-variants.{PlanOutOfRange}
+use denote.Ref.{now}
+use Rattle.frames.proofs.Replies.{gives-refused}
 use borrow.Author.Needs.{needs}
 use Rattle.frames.proofs.session.table_reply.Statement.{statement}
 use Rattle.frames.proofs.session.table_reply.Tie as tie
 
 returns : tie.Need-returns
-returns c = rw (c .before .before .found .given .1) (c .open-reply .ensures)
+returns c = rw (c .before .before .before .before .before .found .given .1) (c .before .before .open-reply .ensures)
 
 returns-2 : tie.Need-returns-2
-returns-2 c = rw (c .before .enum-told .given .1) (c .refused-reply .ensures)
+returns-2 c = let a = c .before .before .before .before .args in rw (c .before .enum-told .given .1) (gives-refused (a .s) (now (a .q)) PlanOutOfRange _ (c .refused-reply .ensures))
 
 pub table-reply-spec : {M : Type 1} → statement M
 table-reply-spec =
@@ -16,5 +19,6 @@ table-reply-spec =
     (λ c κs. search needs)
     (λ c. search needs)
     (λ c κs. search needs)
+    (λ c. search needs)
     returns
     returns-2)
