@@ -1,15 +1,29 @@
 -- A number is its digits' weights summed, limited to 2^32. Assumes nothing.
 use mathlib.Core.Path.{_≡_, refl, sym, _∙_}
+use mathlib.Core.Bool.{true, false}
 use mathlib.Core.List.{List}
 use Prim.Native.Nat.{ℕ, zero, suc, _+_, _-_, _*_, _<_, _≤_, _^_}
 use native.Mathlib.Decide.{decLt}
 use native.Mathlib.Omega.{arith}
-use lib.Dec.{ltb}
+use lib.Dec.{ltb, leb}
 use lib.ListN.{getD}
-use borrow.Author.Tests.{lt-ltb, le-ltb}
+use borrow.Author.Tests.{lt-ltb, le-ltb, lt-leb, le-leb}
 use Rattle.rules.specs.Tests.{pick, _and_}
 use Rattle.rules.specs.Frames.{digit, joined, hex, noNumber}
 use Rattle.frames.specs.Weights.{weight, sum, limited}
+
+false-true : false ≡ true → ⊥
+false-true e = let z : _≡_ {A = ℕ} 0 1 = cc in omega arith
+
+-- both tests of a range
+pub in-range : (low b high : ℕ) → leb low b and ltb b high ≡ true → (low ≤ b) × (b < high)
+unfolding _and_
+in-range low b high e = go (decLt b low) (decLt b high)
+  where
+    go : Dec (b < low) → Dec (b < high) → (low ≤ b) × (b < high)
+    go (yes h) i = absurd (false-true (simp (lt-leb low b h) at e))
+    go (no h) (yes i) = (omega arith, i)
+    go (no h) (no i) = absurd (false-true (simp (le-leb low b (omega arith), le-ltb b high (omega arith)) at e))
 
 -- the weights of the digits
 module _ (b : ℕ) where
@@ -22,6 +36,19 @@ module _ (b : ℕ) where
   letter l h =
       let k : b - 55 < 16 = omega arith in let m : 48 ≤ b = omega arith in let n : 58 ≤ b = omega arith in
       simp (le-ltb b 48 m, le-ltb b 58 n, le-ltb b 65 l, lt-ltb b 71 h, lt-ltb (b - 55) 16 k)
+
+  -- a byte of neither range is no digit
+  pub neither : leb 48 b and ltb b 58 ≡ false → leb 65 b and ltb b 71 ≡ false → noNumber ≡ weight b
+  unfolding weight digit _and_
+  neither d l = go (decLt b 48) (decLt b 58) (decLt b 65) (decLt b 71)
+    where
+      go : Dec (b < 48) → Dec (b < 58) → Dec (b < 65) → Dec (b < 71) → noNumber ≡ weight b
+      go (yes h) i j k = simp (lt-ltb b 48 h)
+      go (no h) (yes i) j k = absurd (false-true (sym (simp (le-leb 48 b (omega arith), lt-ltb b 58 i) at d)))
+      go (no h) (no i) (yes j) k = simp (le-ltb b 48 (omega arith), le-ltb b 58 (omega arith), lt-ltb b 65 j)
+      go (no h) (no i) (no j) (yes k) = absurd (false-true (sym (simp (le-leb 65 b (omega arith), lt-ltb b 71 k) at l)))
+      go (no h) (no i) (no j) (no k) =
+          simp (le-ltb b 48 (omega arith), le-ltb b 58 (omega arith), le-ltb b 65 (omega arith), le-ltb b 71 (omega arith))
 
 below : (v : ℕ) → v < 2 ^ 32 → limited v ≡ v
 unfolding limited

@@ -12,16 +12,10 @@ fn weight(b: u8) -> u64
     ensures { λ r. ⌜ (r ≡ weight b) × (r ≤ 2 ^ 32) ⌝ }
 {
     let v = b as u64;
-    if v < 48 {
-        return NONE;
-    }
-    if v < 58 {
+    if (48 <= v) & (v < 58) {
         return v - 48;
     }
-    if v < 65 {
-        return NONE;
-    }
-    if v < 71 {
+    if (65 <= v) & (v < 71) {
         return v - 55;
     }
     NONE
