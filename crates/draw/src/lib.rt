@@ -1,7 +1,31 @@
-// The generator of the sample's place, and the place that it chooses (document 01, "Sampling").
+// The blocks of sampling, the generator, and the place that it chooses in a block (document 01, "Sampling").
+use rules::Plan;
 ghost use mathlib.Core.Path.{_≡_};
-ghost use Prim.Native.Nat.{_*_, _%_, _^_};
+ghost use Prim.Native.Nat.{_+_, _*_, _%_, _^_, _≤_};
 ghost use Rattle.rules.specs.Draw.{step, place};
+ghost use Rattle.rules.specs.Sampling.{blockLength, nextPlace};
+
+// L, of any n and level.
+pub fn block_length(p: Plan, level: u32) -> u64
+    ensures { λ r. ⌜ r ≡ blockLength p level ⌝ }
+{
+    let n = p.n as u64;
+    if level == 0 {
+        return n;
+    }
+    if level == 1 {
+        return 2 * n;
+    }
+    4 * n
+}
+
+// The place after this one, counted round a block.
+pub fn next_place(len: u64, at: u32) -> u64
+    ensures { λ r. ⌜ (r ≡ nextPlace len at) × (r ≤ at + 1) ⌝ }
+{
+    let next = (at as u64) + 1;
+    if next == len { 0 } else { next }
+}
 
 // The whole product of two 32-bit numbers.
 fn product(a: u32, b: u32) -> u64

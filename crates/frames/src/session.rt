@@ -5,20 +5,14 @@ use rules::Answer;
 use rules::Call;
 use rules::Found;
 use rules::Frame;
-use rules::Numbers;
-use rules::Phase;
 use rules::Plan;
 use rules::Reading;
 use rules::Refusal;
-use rules::Screening;
-use rules::Silence;
 use rules::Station;
-use rules::Stream;
-use rules::Tally;
 use rules::Turn;
 ghost use mathlib.Core.Path.{_≡_};
 ghost use mathlib.Core.Bool.{true, false};
-ghost use Rattle.rules.specs.Calls.{noStation, openCall, outcome};
+ghost use Rattle.rules.specs.Calls.{openCall, outcome};
 ghost use Rattle.rules.specs.Frames.{newSession, answerLine, accepted, openReply, replyWith, tableReply, frameReply, reply};
 ghost use Rattle.frames.specs.Replies.{Gives, sessionOf};
 
@@ -34,52 +28,10 @@ pub struct Replied {
     pub text: [u8; 33],
 }
 
-fn no_station() -> Station
-    ensures { λ r. ⌜ r ≡ noStation ⌝ }
-{
-    Station {
-        plan: Plan {
-            kind: 0,
-            n: 0,
-            i: 0,
-            s: 0,
-            x: 0,
-            period: 0,
-        },
-        room: 0,
-        stream: Stream {
-            phase: Phase::Screen(Screening {
-                need: 0,
-                run: 0,
-                screened: 0,
-                unrecalled: 0,
-            }),
-            tally: Tally {
-                conforming: 0,
-                defective: 0,
-                passed: 0,
-                missed: 0,
-                owed: false,
-                last: 0,
-            },
-            silence: Silence {
-                ticks: 0,
-                heard: false,
-            },
-            generator: 0,
-        },
-        numbers: Numbers {
-            told: 0,
-            oldest: 0,
-            next: 0,
-        },
-    }
-}
-
 pub fn new_standing() -> Standing
     ensures { λ r. ⌜ sessionOf r (newSession .queue) ≡ newSession ⌝ }
 {
-    let station = no_station();
+    let station = station::no_station();
     Standing {
         opened: false,
         station: station,

@@ -1,10 +1,13 @@
 // Document 01, "Plan numbers" and "A sound record": total tests of a plan and of a record. They have no
 // branch where they can do without, so that every call pays the same for them.
+use rules::CLEARANCE_LIMIT;
 use rules::CSP_2;
 use rules::CSP_F;
 use rules::CSP_T;
 use rules::CSP_V;
 use rules::EVENTS_END;
+use rules::HIGHEST_UNIT;
+use rules::LONG_LIMIT;
 use rules::Numbers;
 use rules::Phase;
 use rules::Plan;
@@ -13,13 +16,11 @@ use rules::Screening;
 use rules::Silence;
 use rules::Station;
 use rules::Tally;
-use rules::UNIT_LIMIT;
 ghost use mathlib.Core.Path.{_≡_};
 ghost use Prim.Native.Nat.{_+_, _≤_};
 ghost use Rattle.rules.specs.Tests.{pick, within};
 ghost use Rattle.rules.specs.Plan.{inRange, unitLimit, roomInRange};
-ghost use Rattle.rules.specs.Sampling.{blockLength, nextPlace};
-ghost use Rattle.rules.specs.Sound.{one, soundTally, soundNeed, soundScreening, soundLevel, soundPlaces, soundRow, soundWatch, soundSampling, soundPhase, soundNumbers, soundSilence, sound};
+ghost use Rattle.rules.specs.Sound.{one, soundTally, soundNeed, soundScreening, soundLevel, soundPlaces, rowCounts, levelBegins, soundBegin, soundRow, soundWatch, soundSampling, soundPhase, soundNumbers, soundSilence, sound};
 
 fn picked(test: bool, yes: bool, no: bool) -> bool
     ensures { λ r. ⌜ r ≡ pick test yes no ⌝ }
@@ -39,12 +40,12 @@ pub fn in_range(p: Plan) -> bool
 {
     in_bounds(1, p.kind, CSP_V)
         & in_bounds(2, p.n, 200)
-        & in_bounds(1, p.i, 10000)
-        & picked(p.kind == CSP_F, p.s == 0, in_bounds(p.i, p.s, 100000))
+        & in_bounds(1, p.i, CLEARANCE_LIMIT)
+        & picked(p.kind == CSP_F, p.s == 0, in_bounds(p.i, p.s, LONG_LIMIT))
         & picked(p.kind == CSP_V, in_bounds(1, p.x, p.i), p.x == 0)
         & picked(
             p.kind == CSP_F,
-            in_bounds(1, p.period, UNIT_LIMIT),
+            in_bounds(1, p.period, HIGHEST_UNIT),
             p.period == 0,
         )
 }
@@ -56,7 +57,7 @@ pub fn unit_limit(p: Plan) -> u32
     if p.kind == CSP_F {
         p.period
     } else {
-        UNIT_LIMIT
+        HIGHEST_UNIT
     }
 }
 
@@ -108,34 +109,31 @@ fn sound_level(p: Plan, level: u32) -> bool
     picked(p.kind == CSP_T, level <= 2, level == 0)
 }
 
-// L, of any n and level.
-pub fn block_length(p: Plan, level: u32) -> u64
-    ensures { λ r. ⌜ r ≡ blockLength p level ⌝ }
-{
-    let n = p.n as u64;
-    if level == 0 {
-        return n;
-    }
-    if level == 1 {
-        return 2 * n;
-    }
-    4 * n
-}
-
-// The place after this one, counted round a block.
-pub fn next_place(len: u64, at: u32) -> u64
-    ensures { λ r. ⌜ (r ≡ nextPlace len at) × (r ≤ at + 1) ⌝ }
-{
-    let next = (at as u64) + 1;
-    if next == len { 0 } else { next }
-}
-
 fn sound_places(len: u64, owed: bool, m: Sampling) -> bool
     ensures { λ r. ⌜ r ≡ soundPlaces len owed m ⌝ }
 {
     ((m.place as u64) < len)
         & ((m.chosen as u64) < len)
-        & (!owed | (next_place(len, m.chosen) == (m.place as u64)))
+        & (!owed | (draw::next_place(len, m.chosen) == (m.place as u64)))
+}
+
+// Are conforming samples in a row counted?
+fn row_counts(p: Plan, level: u32) -> bool
+    ensures { λ r. ⌜ r ≡ rowCounts p level ⌝ }
+{
+    ((p.kind == CSP_T) & (level < 2)) | (p.kind == CSP_V)
+}
+
+fn level_begins(p: Plan, owed: bool, m: Sampling) -> bool
+    ensures { λ r. ⌜ r ≡ levelBegins p owed m ⌝ }
+{
+    row_counts(p, m.level) & (m.row == 0) & (m.place == 0) & !owed
+}
+
+fn sound_begin(p: Plan, owed: bool, m: Sampling) -> bool
+    ensures { λ r. ⌜ r ≡ soundBegin p owed m ⌝ }
+{
+    !level_begins(p, owed, m) | (m.chosen == 0)
 }
 
 fn sound_row(p: Plan, m: Sampling) -> bool
@@ -162,7 +160,8 @@ fn sound_sampling(p: Plan, t: Tally, m: Sampling) -> bool
     ensures { λ r. ⌜ r ≡ soundSampling p t m ⌝ }
 {
     sound_level(p, m.level)
-        & sound_places(block_length(p, m.level), t.owed, m)
+        & sound_places(draw::block_length(p, m.level), t.owed, m)
+        & sound_begin(p, t.owed, m)
         & sound_row(p, m)
         & sound_watch(p, m)
 }

@@ -15,6 +15,7 @@ use rules::Raised;
 use rules::Sampling;
 ghost use mathlib.Core.Path.{_≡_};
 ghost use Prim.Native.Nat.{_≤_, _<_};
+ghost use Rattle.rules.specs.Plan.{clearanceLimit};
 ghost use Rattle.rules.specs.Sampling.{drawn, placed, counted, quietly, goodT, goodV, good2, sampledGood, reverted, needAfterSampling, sampledBad};
 ghost use Rattle.rules.specs.Stream.{arrivedDrawn, arrivedSampling};
 
@@ -40,7 +41,7 @@ pub fn arrived_sampling(len: u32, s: u32, m: Sampling) -> Arrived
     ensures { λ r. ⌜ r ≡ arrivedSampling len s m ⌝ }
 {
     let d = draw_place(len, s, m);
-    let place = record::next_place(len as u64, m.place) as u32;
+    let place = draw::next_place(len as u64, m.place) as u32;
     Arrived {
         phase: Phase::Sample(Sampling {
             level: m.level,
@@ -79,7 +80,7 @@ fn quiet(phase: Phase) -> Moved
 }
 
 fn good_t(p: Plan, unit: u32, m: Sampling) -> Moved
-    requires { ⌜ (m .level ≤ 2) × (m .row ≤ 10000) ⌝ }
+    requires { ⌜ (m .level ≤ 2) × (m .row ≤ clearanceLimit) ⌝ }
     ensures { λ r. ⌜ r ≡ goodT p unit m ⌝ }
 {
     if 2 <= m.level {
@@ -101,7 +102,7 @@ fn good_t(p: Plan, unit: u32, m: Sampling) -> Moved
 }
 
 fn good_v(p: Plan, m: Sampling) -> Moved
-    requires { ⌜ m .row ≤ 10000 ⌝ }
+    requires { ⌜ m .row ≤ clearanceLimit ⌝ }
     ensures { λ r. ⌜ r ≡ goodV p m ⌝ }
 {
     if m.row < p.i {
@@ -111,7 +112,7 @@ fn good_v(p: Plan, m: Sampling) -> Moved
 }
 
 fn good_2(p: Plan, m: Sampling) -> Moved
-    requires { ⌜ m .watched ≤ 10000 ⌝ }
+    requires { ⌜ m .watched ≤ clearanceLimit ⌝ }
     ensures { λ r. ⌜ r ≡ good2 p m ⌝ }
 {
     if m.watch {
@@ -125,7 +126,7 @@ fn good_2(p: Plan, m: Sampling) -> Moved
 }
 
 pub fn sampled_good(p: Plan, unit: u32, m: Sampling) -> Moved
-    requires { ⌜ (m .level ≤ 2) × (m .row ≤ 10000) × (m .watched ≤ 10000) ⌝ }
+    requires { ⌜ (m .level ≤ 2) × (m .row ≤ clearanceLimit) × (m .watched ≤ clearanceLimit) ⌝ }
     ensures { λ r. ⌜ r ≡ sampledGood p unit m ⌝ }
 {
     if p.kind == CSP_T {

@@ -10,6 +10,7 @@ use rules::Sampling;
 use rules::Screening;
 ghost use mathlib.Core.Path.{_≡_};
 ghost use Prim.Native.Nat.{_<_};
+ghost use Rattle.rules.specs.Plan.{clearanceLimit, highestUnit};
 ghost use Rattle.rules.specs.Screening.{startScreening, startSampling, restartRaised, screenedGood, needAfterDefect, longScreening, defectRaised, screenedBad, afterFind};
 ghost use Rattle.station.specs.Fit.{Findable};
 
@@ -55,7 +56,7 @@ pub fn restart_raised(cause: Event, unit: u32, phase: Phase) -> Raised
 }
 
 pub fn screened_good(unit: u32, c: Screening) -> Moved
-    requires { ⌜ (c .run < 10000) × (c .screened < 1000000) × (c .unrecalled < 1000000) ⌝ }
+    requires { ⌜ (c .run < clearanceLimit) × (c .screened < highestUnit) × (c .unrecalled < highestUnit) ⌝ }
     ensures { λ r. ⌜ r ≡ screenedGood unit c ⌝ }
 {
     let run = c.run + 1;
@@ -114,7 +115,7 @@ fn defect_raised(long: bool, unit: u32, screened: u32) -> Raised
 }
 
 pub fn screened_bad(p: Plan, unit: u32, c: Screening) -> Moved
-    requires { ⌜ c .screened < 1000000 ⌝ }
+    requires { ⌜ c .screened < highestUnit ⌝ }
     ensures { λ r. ⌜ r ≡ screenedBad p unit c ⌝ }
 {
     let screened = c.screened + 1;

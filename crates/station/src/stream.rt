@@ -24,7 +24,7 @@ ghost use mathlib.Core.Path.{_≡_};
 ghost use mathlib.Core.Bool.{true, false};
 ghost use Prim.Native.Nat.{_+_, _≤_, _<_};
 ghost use Rattle.rules.specs.Stream.{freshStream, missedTally, jumped, arrived, arrivedTally, arrivedStream, handled, unitRule, resultPhase, resultTally, resultMoved, resultRule, withPhase, interruptRule, findRule, withSilence, tickRule};
-ghost use Rattle.rules.specs.Plan.{unitLimit};
+ghost use Rattle.rules.specs.Plan.{unitLimit, eventLimit, highestUnit};
 ghost use Rattle.rules.proofs.Facts.{PlanFacts};
 ghost use Rattle.station.specs.Fit.{Findable, Countable, Placed, StreamFit};
 
@@ -50,7 +50,7 @@ pub fn fresh_stream(p: Plan, seed: u32) -> Stream
 }
 
 fn missed_tally(k: u32, t: Tally) -> Tally
-    requires { ⌜ (t .last < k) × (k ≤ 1000000) × (t .missed ≤ 1000000) ⌝ }
+    requires { ⌜ (t .last < k) × (k ≤ highestUnit) × (t .missed ≤ highestUnit) ⌝ }
     ensures { λ r. ⌜ r ≡ missedTally k t ⌝ }
 {
     let mut missed = t;
@@ -60,7 +60,7 @@ fn missed_tally(k: u32, t: Tally) -> Tally
 
 // The units between the last and k are missed.
 fn jump(p: Plan, k: u32, s: Stream) -> Ruled
-    requires { ⌜ (s .tally .last < k) × (k ≤ 1000000) × (s .tally .missed ≤ 1000000) ⌝ }
+    requires { ⌜ (s .tally .last < k) × (k ≤ highestUnit) × (s .tally .missed ≤ highestUnit) ⌝ }
     ensures { λ r. ⌜ r ≡ jumped p k s ⌝ }
 {
     let t = s.tally;
@@ -100,12 +100,12 @@ fn arrive(p: Plan, s: u32, phase: Phase) -> Arrived
             generator: s,
             inspect: true,
         },
-        Phase::Sample(m) => arrived_sampling(record::block_length(p, m.level) as u32, s, m),
+        Phase::Sample(m) => arrived_sampling(draw::block_length(p, m.level) as u32, s, m),
     }
 }
 
 fn arrived_tally(k: u32, inspect: bool, t: Tally) -> Tally
-    requires { ⌜ t .passed ≤ 1000000 ⌝ }
+    requires { ⌜ t .passed ≤ highestUnit ⌝ }
     ensures { λ r. ⌜ r ≡ arrivedTally k inspect t ⌝ }
 {
     let mut arrived = t;
@@ -119,7 +119,7 @@ fn arrived_tally(k: u32, inspect: bool, t: Tally) -> Tally
 }
 
 fn arrived_stream(k: u32, a: Arrived, s: Stream) -> Stream
-    requires { ⌜ s .tally .passed ≤ 1000000 ⌝ }
+    requires { ⌜ s .tally .passed ≤ highestUnit ⌝ }
     ensures { λ r. ⌜ r ≡ arrivedStream k a s ⌝ }
 {
     let phase = a.phase;
@@ -139,7 +139,7 @@ fn arrived_stream(k: u32, a: Arrived, s: Stream) -> Stream
 
 // What was missed, then unit k.
 fn handle(p: Plan, k: u32, j: Ruled) -> Ruled
-    requires { ⌜ PlanFacts p × Placed (j .stream .phase) × (j .stream .tally .passed ≤ 1000000) ⌝ }
+    requires { ⌜ PlanFacts p × Placed (j .stream .phase) × (j .stream .tally .passed ≤ highestUnit) ⌝ }
     ensures { λ r. ⌜ r ≡ handled p k j ⌝ }
 {
     let s = j.stream;
@@ -192,7 +192,7 @@ fn result_phase(p: Plan, unit: u32, r: u32, phase: Phase) -> Moved
 }
 
 fn result_tally(r: u32, t: Tally) -> Tally
-    requires { ⌜ (t .conforming ≤ 1000000) × (t .defective ≤ 1000000) ⌝ }
+    requires { ⌜ (t .conforming ≤ highestUnit) × (t .defective ≤ highestUnit) ⌝ }
     ensures { λ q. ⌜ q ≡ resultTally r t ⌝ }
 {
     let mut judged = t;
@@ -288,7 +288,7 @@ fn with_silence(ticks: u32, s: Stream) -> Stream
 }
 
 pub fn tick_rule(s: Stream) -> Ruled
-    requires { ⌜ s .silence .ticks ≤ 8000000 ⌝ }
+    requires { ⌜ s .silence .ticks ≤ eventLimit ⌝ }
     ensures { λ r. ⌜ r ≡ tickRule s ⌝ }
 {
     if s.silence.heard {

@@ -10,8 +10,8 @@ use figures::TABLE_V_S;
 use rules::CSP_F;
 use rules::CSP_T;
 use rules::Found;
+use rules::HIGHEST_UNIT;
 use rules::Plan;
-use rules::UNIT_LIMIT;
 ghost use mathlib.Core.Path.{_≡_};
 ghost use Prim.Native.Nat.{_≤_, _<_};
 ghost use Rattle.rules.specs.Tables.{column, row, letterRow, inV, inIIIA4, planV, planIIIA4, lookUp};
@@ -69,7 +69,7 @@ fn in_iii_a_4(kind: u32, letter: u32, aql: u32, period: u32) -> bool
     (kind == CSP_F)
         & ((1 <= letter) & (letter <= 8))
         & (aql == 40)
-        & ((1 <= period) & (period <= UNIT_LIMIT))
+        & ((1 <= period) & (period <= HIGHEST_UNIT))
 }
 
 // The entry of Table V.

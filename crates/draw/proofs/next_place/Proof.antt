@@ -1,8 +1,8 @@
 use Rattle.rules.specs.Sampling.{nextPlace}
 use borrow.Author.Tests.{eq-eqb, ne-eqb}
 use borrow.Author.Needs.{needs}
-use Rattle.record.proofs.next_place.Statement.{statement}
-use Rattle.record.proofs.next_place.Tie as tie
+use Rattle.draw.proofs.next_place.Statement.{statement}
+use Rattle.draw.proofs.next_place.Tie as tie
 
 returns : tie.Need-returns
 unfolding nextPlace

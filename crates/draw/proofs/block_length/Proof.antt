@@ -1,8 +1,8 @@
 use Rattle.rules.specs.Sampling.{blockLength}
 use borrow.Author.Tests.{eq-eqb, ne-eqb}
 use borrow.Author.Needs.{needs}
-use Rattle.record.proofs.block_length.Statement.{statement}
-use Rattle.record.proofs.block_length.Tie as tie
+use Rattle.draw.proofs.block_length.Statement.{statement}
+use Rattle.draw.proofs.block_length.Tie as tie
 
 returns : tie.Need-returns
 unfolding blockLength
