@@ -1,6 +1,6 @@
 -- From a call's turn to what its line gives. Assumes nothing.
 use Prim.Native.Nat.{ℕ}
-use mathlib.Core.Path.{_≡_, ap, subst, _∙_}
+use mathlib.Core.Path.{_≡_, sym, ap, subst, _∙_}
 use mathlib.Core.Bool.{Bool}
 use mathlib.Core.List.{List}
 use Rattle.rules.specs.Calls.{Outcome, Meets}
@@ -9,6 +9,7 @@ use Rattle.rules.specs.declared.Answer.{Answer}
 use Rattle.rules.specs.declared.Answer.the-variants.{Refused}
 use Rattle.rules.specs.declared.Refusal.{Refusal}
 use Rattle.rules.specs.declared.Frame.{Frame}
+use Rattle.rules.specs.declared.Reply.{Reply}
 use Rattle.rules.specs.declared.Session.{Session}
 use Rattle.rules.specs.declared.Turn.{Turn}
 use Rattle.frames.specs.Replies.{Gives, sessionOf}
@@ -19,6 +20,17 @@ use Rattle.frames.specs.declared.session.Replied.{Replied}
 pub gives-refused : (s : Standing) (queue : List ℕ) (r : Refusal) (p : Replied)
     → (p .standing ≡ s) × (p .text ≡ answerLine (Refused r)) → Gives (refusedReply (sessionOf s queue) r) p queue
 gives-refused s queue r p e = record { session = rw (e .0); text = e .1 }
+
+-- at most one reply: two that one line gives are the same, and the queue's words are the same
+pub one-reply : (p : Reply) (r r' : Replied) (queue queue' : List ℕ) → Gives p r queue → Gives p r' queue' → (r ≡ r') × (queue ≡ queue')
+one-reply p r r' queue queue' g g' =
+    let s = g .session ∙ sym (g' .session) in (
+      ap (λ (x : Session). replied x (r .text)) s ∙ ap (replied (sessionOf (r' .standing) queue')) (g .text ∙ sym (g' .text)),
+      ap (λ (x : Session). x .queue) s,
+    )
+  where
+    replied : Session → List ℕ → Replied
+    replied s text = record { standing = record { opened = s .opened; station = s .station }; text = text }
 
 -- whether an open was accepted, as it was tested
 pub gives-by : (b b' : Bool) (s : Session) (f : Frame) (p : Replied) (queue : List ℕ) → b ≡ b'

@@ -14,7 +14,7 @@ ghost use mathlib.Core.Path.{_≡_};
 ghost use mathlib.Core.Bool.{true, false};
 ghost use Rattle.rules.specs.Calls.{openCall, outcome};
 ghost use Rattle.rules.specs.Frames.{newSession, answerLine, accepted, openReply, replyWith, tableReply, frameReply, reply};
-ghost use Rattle.frames.specs.Replies.{Gives, sessionOf};
+ghost use Rattle.frames.specs.Replies.{Gives, sessionOf, newStanding};
 
 // Whether an open was accepted, and the station; with the queue beside it this is the session.
 pub struct Standing {
@@ -29,7 +29,7 @@ pub struct Replied {
 }
 
 pub fn new_standing() -> Standing
-    ensures { λ r. ⌜ sessionOf r (newSession .queue) ≡ newSession ⌝ }
+    ensures { λ r. ⌜ r ≡ newStanding ⌝ }
 {
     let station = station::no_station();
     Standing {
