@@ -1265,6 +1265,17 @@ def pinned_open_v(s):
 
 
 @session
+def pinned_open_least(s):
+    """Pinned. Frame 01: CSP-1 with the least numbers, n 2, i 1, S 1."""
+    s.open(CSP_1, 2, 1, 1, seed=0x80000001)
+    # the first defect is LONG, the first good unit starts sampling
+    s.bad()
+    s.good()
+    s.units(6)
+    s.take_all()
+
+
+@session
 def pinned_open_f(s):
     """Pinned. Frame 01: CSP-F, n 3, i 1, N 8."""
     s.open(CSP_F, 3, 1, N=8, seed=0x0BADCAFE)
