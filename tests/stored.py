@@ -1137,10 +1137,18 @@ def pinned_csp_v(s):
     # S is 5: LONG at the fifth unit screened and at the sixth
     s.bad(2)
     s.take_all()
-    # a jump and an interrupt in screening give need 3
-    s.good()
+    # three good samples and a defect: need 2; a jump in screening: need 3
+    s.good(3)
+    s.good(3)
+    s.bad()
     s.unit(s.station.last + 3)
     s.result(0)
+    s.good()
+    s.take_all()
+    # three good samples and a defect: need 2; an interrupt in screening: need 3
+    s.good()
+    s.good(3)
+    s.bad()
     s.good()
     s.interrupt()
     s.good(2)
