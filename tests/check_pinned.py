@@ -82,9 +82,9 @@ def definitions(text):
     return {name: (parameters.split(), meaning) for name, parameters, meaning in found}
 
 
-def spelled(names, words):
+def spelled(names, term):
     """A name and its arguments, put into what the name stands for."""
-    name, *arguments = words.split()
+    name, *arguments = term.split()
     parameters, meaning = names[name]
     given = dict(zip(parameters, arguments, strict=True))
     return ' '.join(given.get(word, word) for word in meaning.split())
