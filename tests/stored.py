@@ -4,7 +4,7 @@ from model import CSP_1, CSP_2, CSP_F, CSP_T, CSP_V
 from script import Script, words
 
 SESSIONS = {}
-A, G, H, I, K = 1, 7, 8, 9, 11
+A, B, G, H, I, K = 1, 2, 7, 8, 9, 11
 TOP = 2 ** 32 - 1
 
 
@@ -854,3 +854,441 @@ def empty_lines(s):
     """Input of line feeds alone: a 9 for each."""
     for _ in range(5):
         s.line(b'')
+
+
+# ---- Pinned sessions: crates/rules/proofs computes their answers from the definitions, in Sessions.antt and Program.antt
+
+@session
+def pinned_csp_1(s):
+    """Pinned. CSP-1: each kind of event, a new sequence by each cause in either phase, two alarms, two gaps."""
+    s.open(CSP_1, 5, 3, 4, seed=0x1235C004)
+    # ticks before any unit, and one that the first unit breaks; there is nothing to find, and no result is owed
+    s.tick(2)
+    s.find()
+    s.result(0)
+    s.good()
+    s.tick(2)
+    # units 3 to 5 are missed: MISSED alone, and the run begins again
+    s.good()
+    s.unit(6)
+    s.unit(6)
+    s.interrupt()
+    s.find()
+    s.result(2)
+    s.result(0)
+    s.good()
+    s.take_all()
+    # an interrupt: INTERRUPT alone, nothing is left to find, and the run begins again
+    s.interrupt()
+    s.find()
+    s.good(2)
+    # a find sets screened to 0: the next two defects make 2, not 4
+    s.find()
+    s.bad(2)
+    s.find()
+    s.find()
+    s.take_all()
+    # S is 4: no LONG at the third unit screened, one at the fourth and one at the sixth
+    s.bad(2)
+    s.good()
+    s.bad()
+    s.good()
+    s.bad()
+    s.take_all()
+    # three good ones in a row start sampling: three blocks of 5, and three units of the fourth
+    s.good(3)
+    s.find()
+    s.units(18)
+    s.take_all()
+    # an interrupt in sampling: INTERRUPT, then PHASE
+    s.interrupt()
+    s.take_all()
+    # sampling again; the generator carries on, and a defective sample reverts
+    s.good(3)
+    s.good()
+    s.bad()
+    s.take_all()
+    # the reverting defect is not counted in screened, and nothing is left to find
+    s.find()
+    s.bad(3)
+    s.take_all()
+    # sampling again; while a sample's result is owed a unit, an interrupt and a find get 4
+    s.good(3)
+    s.inspected()
+    s.unit(1)
+    s.interrupt()
+    s.find()
+    s.tick(2)
+    s.result(0)
+    s.units(3)
+    # two units are missed in sampling: MISSED, then PHASE with the unit that jumped
+    s.unit(s.station.last + 3)
+    s.result(0)
+    s.take_all()
+    # the queue overflows: a marker names the first dropped and how many; a take frees the room of one, a marker none
+    s.tick(11)
+    s.take(2)
+    s.tick(2)
+    s.bad()
+    s.take(3)
+    s.good(3)
+    s.tick(2)
+    s.take_all()
+
+
+@session
+def pinned_csp_2(s):
+    """Pinned. CSP-2: a watch that ends, one that reverts, one cut off by an interrupt and one by a jump."""
+    s.open(CSP_2, 5, 2, 3, seed=0xB5297A4D)
+    # a first unit above 1
+    s.unit(3)
+    s.result(0)
+    s.bad()
+    s.good()
+    s.find()
+    s.find()
+    s.find()
+    # S is 3: the finds set screened to 0; LONG at the third unit and at the fourth
+    s.bad(2)
+    s.take_all()
+    s.bad(2)
+    s.take_all()
+    # sampling; a defect starts a watch, its block goes on, and two conforming samples end the watch
+    s.good(2)
+    s.bad()
+    s.units(9)
+    s.take_all()
+    # a further defect starts a watch anew, and after one conforming sample the next reverts
+    s.good()
+    s.bad()
+    s.good()
+    s.find()
+    s.take_all()
+    s.bad()
+    s.take_all()
+    # a watch does not outlive its stay: an interrupt in the watch, and in the next stay the first defect reverts nothing
+    s.good(2)
+    s.bad()
+    s.interrupt()
+    s.good(2)
+    s.bad()
+    s.take_all()
+    # nor does it outlive a jump; ticks before and after the unit
+    s.tick(2)
+    s.unit(s.station.last + 5)
+    s.tick()
+    s.result(0)
+    s.tick(3)
+    s.good()
+    s.bad()
+    s.good()
+    s.take()
+    s.units(2)
+    # in screening again by a second defect; an interrupt and a jump there
+    s.bad()
+    s.good()
+    s.interrupt()
+    s.good()
+    s.unit(s.station.last + 2)
+    s.result(0)
+    # the gap, and what is held
+    s.take_all()
+
+
+@session
+def pinned_csp_f(s):
+    """Pinned. CSP-F: no alarm however long the screening; the period's end in sampling."""
+    s.open(CSP_F, 3, 2, N=42, seed=0xFFFFFFFF)
+    s.tick()
+    # S is 0: no LONG, however many are screened; a defective unit is not there to be found
+    s.bad()
+    s.find()
+    s.bad()
+    s.good()
+    s.bad()
+    s.take_all()
+    # a find, a jump and an interrupt in screening
+    s.find()
+    s.find()
+    s.good()
+    s.unit(8)
+    s.result(0)
+    s.interrupt()
+    s.take_all()
+    # sampling: blocks of 3; a find is refused; a defective sample reverts
+    s.good(2)
+    s.find()
+    s.units(9)
+    s.bad()
+    s.take_all()
+    # sampling, and an interrupt
+    s.good(2)
+    s.units(2)
+    s.interrupt()
+    s.take_all()
+    # sampling, and a jump
+    s.good(2)
+    s.units(1)
+    s.unit(s.station.last + 4)
+    s.result(0)
+    s.take_all()
+    # 43 is above the limit, by a jump and as the next number; the period ends in sampling
+    s.good()
+    s.units(6)
+    s.unit(43)
+    s.units(3)
+    s.unit(43)
+    s.unit(TOP)
+    s.unit(42)
+    # ticks and takes go on; an interrupt finds the queue full and drops two
+    s.tick(10)
+    s.interrupt()
+    s.find()
+    s.take_all()
+    s.interrupt()
+    s.tick()
+    s.take_all()
+
+
+@session
+def pinned_csp_t(s):
+    """Pinned. CSP-T: levels 0, 1 and 2, and a return from each, by a defect, an interrupt and a jump."""
+    s.open(CSP_T, 3, 2, 4, seed=0x9E3779B9)
+    # sampling at level 0: one conforming sample, and a defective one reverts
+    s.good(2)
+    s.good()
+    s.bad()
+    s.take_all()
+    # a find, an interrupt and a jump in screening
+    s.good()
+    s.find()
+    s.good()
+    s.interrupt()
+    s.good()
+    s.unit(s.station.last + 2)
+    s.result(1)
+    s.take_all()
+    # S is 4: two alarms
+    s.bad(4)
+    s.take_all()
+    # two conforming samples: level 1, blocks of 6 from the next unit on; one more is no level, and a defect reverts
+    s.good(2)
+    s.good(2)
+    s.take_all()
+    s.good()
+    s.bad()
+    s.take_all()
+    # level 1 again, and an interrupt
+    s.good(2)
+    s.good(2)
+    s.find()
+    s.units(1)
+    s.interrupt()
+    s.take_all()
+    # level 2: blocks of 12, and it stays; ticks before and after units
+    s.good(2)
+    s.good(2)
+    s.good(2)
+    s.take_all()
+    s.tick(2)
+    s.units(26)
+    s.tick(2)
+    s.good()
+    # a jump at level 2; sampling starts at level 0
+    s.unit(s.station.last + 7)
+    s.result(0)
+    s.good()
+    s.take_all()
+    # a defect at level 2, and an overflow
+    s.good(4)
+    s.bad()
+    s.tick(6)
+    s.take_all()
+
+
+@session
+def pinned_csp_v(s):
+    """Pinned. CSP-V: need i and need x, by each cause; a find keeps need x."""
+    s.open(CSP_V, 4, 3, 5, x=2, seed=0x00ABCDEF)
+    # a defect after two good samples: need is 3
+    s.good(3)
+    s.good(2)
+    s.bad()
+    s.good(2)
+    s.take_all()
+    # sampling; after four good samples, one more than are counted, need is 2
+    s.good()
+    s.good(4)
+    s.bad()
+    s.good(1)
+    s.take_all()
+    # a find keeps need 2: the second good one after it starts sampling
+    s.find()
+    s.good(2)
+    s.find()
+    s.take_all()
+    # three good samples and a defect: need 2; a defect in screening: need 3
+    s.good(3)
+    s.bad()
+    s.good()
+    s.bad()
+    s.good(2)
+    s.take_all()
+    # S is 5: LONG at the fifth unit screened and at the sixth
+    s.bad(2)
+    s.take_all()
+    # three good samples and a defect: need 2; a jump in screening: need 3
+    s.good(3)
+    s.good(3)
+    s.bad()
+    s.unit(s.station.last + 3)
+    s.result(0)
+    s.good()
+    s.take_all()
+    # three good samples and a defect: need 2; an interrupt in screening: need 3
+    s.good()
+    s.good(3)
+    s.bad()
+    s.good()
+    s.interrupt()
+    s.good(2)
+    s.take_all()
+    # three good samples and an interrupt: need 3
+    s.good()
+    s.good(3)
+    s.interrupt()
+    s.good(2)
+    s.take_all()
+    # three good samples and a jump: need 3; the row of the stay before does not count
+    s.good()
+    s.good(3)
+    s.tick(2)
+    s.unit(s.station.last + 2)
+    s.tick()
+    s.result(0)
+    s.tick(2)
+    s.good()
+    s.take_all()
+    s.good()
+    s.bad()
+    s.good(2)
+    s.tick(7)
+    s.good()
+    s.take_all()
+
+
+@session
+def pinned_program(s):
+    """Pinned. The program: calls before an open, opens refused and taken, ill-formed lines, a torn last line."""
+    # before an open each call gets 2, and an ill-formed line 9
+    s.tick()
+    s.take()
+    s.unit(1)
+    s.result(2)
+    s.interrupt()
+    s.find()
+    s.line(b'')
+    s.line(b'07\r')
+    # a plan out of range, and entries that no table has; after a refused open a call still gets 2
+    s.open(CSP_1, 2, 2, 1)
+    s.open(CSP_F, 2, 2, 2, N=9)
+    for entry in ((CSP_1, A, 10_000), (CSP_T, 0, 10_000), (CSP_T, 12, 10_000), (CSP_T, A, 40), (CSP_T, A, 10_000, 1)):
+        s.table(*entry)
+    for entry in ((CSP_F, I, 40, 500), (CSP_F, A, 400, 500), (CSP_F, A, 40, 0), (CSP_F, A, 40, 1_000_001)):
+        s.table(*entry, seed=5)
+    s.take()
+    # letter A, AQL 10.0, no seed: n 2, i 5, S 12 and seed 0; then every open gets 9
+    s.table(CSP_T, A, 10_000)
+    s.table(CSP_T, A, 10_000)
+    s.open(CSP_1, 2, 2, 3, seed=1)
+    s.open(0, 0, 0)
+    s.table(CSP_T, 0, 0, seed=0)
+    s.take(2)
+    # ill-formed lines break no silence
+    s.tick()
+    for line in (b'', b'7', b'00', b'09', b'0a', b'FF', b'07 ', b' 07', b'07\t', b'07\r', b'06 00000000', b'02', b'02 1',
+                 b'02  00000001', b'02 0000000G', b'02 0000000a', b'02 00000001 ', b'02\t00000001', b'0200000001',
+                 b'04 00000000', b'01 00000001 00000002 00000002 00000003 00000000 00000000',
+                 b'08 00000004 00000001 00002710', b'08 00000004 00000001 00002710 00000000 00000000 00000000',
+                 b'0' * 80, b'0' * 81):
+        s.line(line)
+    s.tick()
+    s.take(3)
+    # 05 is a find: refused, and then taken; 04 is an interrupt: taken at once
+    s.find()
+    s.good(2)
+    s.find()
+    s.interrupt()
+    s.take(3)
+    # five good ones start sampling; the orders are those of seed 0
+    s.good(5)
+    s.units(20)
+    s.find()
+    s.result(0)
+    s.result(2)
+    s.unit(1)
+    s.unit(1_000_001)
+    s.unit(TOP)
+    # an interrupt in sampling, and a jump to the last unit number
+    s.interrupt()
+    s.unit(1_000_000)
+    s.interrupt()
+    s.find()
+    s.result(0)
+    s.take_all()
+    # the queue overflows
+    s.tick(11)
+    s.take(3)
+    # a torn last line
+    return b'07'
+
+
+@session
+def pinned_table_open(s):
+    """Pinned. Frame 08 with a seed: CSP-T, letter B, AQL 10.0."""
+    s.table(CSP_T, B, 10_000, seed=0x2545F491)
+    # i is 6, and n 3
+    s.good(6)
+    s.units(9)
+    s.take_all()
+
+
+@session
+def pinned_open_v(s):
+    """Pinned. Frame 01: CSP-V, n 4, i 3, S 5, x 2."""
+    s.open(CSP_V, 4, 3, 5, x=2, seed=0x00C0FFEE)
+    # S by the alarm
+    s.bad(4)
+    s.take_all()
+    s.bad()
+    s.take_all()
+    # i, and n and the seed by the orders
+    s.good(3)
+    s.units(12)
+    s.bad()
+    s.take_all()
+    # x
+    s.good(2)
+    s.take_all()
+
+
+@session
+def pinned_open_least(s):
+    """Pinned. Frame 01: CSP-1 with the least numbers, n 2, i 1, S 1."""
+    s.open(CSP_1, 2, 1, 1, seed=0x80000001)
+    # the first defect is LONG, the first good unit starts sampling
+    s.bad()
+    s.good()
+    s.units(6)
+    s.take_all()
+
+
+@session
+def pinned_open_f(s):
+    """Pinned. Frame 01: CSP-F, n 3, i 1, N 8."""
+    s.open(CSP_F, 3, 1, N=8, seed=0x0BADCAFE)
+    # i, then n and the seed by the orders, then N
+    s.good()
+    s.units(7)
+    s.unit(9)
+    s.take_all()

@@ -1,0 +1,180 @@
+"""Pinned tables: what the proofs compute from the definitions is what the stored sessions and the model say.
+
+The tables stand in crates/rules/proofs. A session there has the name of the stored session whose calls and answers it has.
+"""
+
+import re
+
+import model
+import programs
+from programs import ROOT
+from script import words
+
+PROOFS = ROOT / 'crates' / 'rules' / 'proofs'
+SESSIONS = ROOT / 'sessions'
+CODES = {'UnitOf': 2, 'Result': 3, 'Interrupt': 4, 'CheckFind': 5, 'Tick': 6, 'Take': 7}
+NUMERAL = r'0x[0-9A-F]+|\d+'
+
+
+def check(report, pair, options):
+    told = calls = 0
+    for table in (sessions, runs, example):
+        for name, text, answers in table(report):
+            told += 1
+            calls += text.count(b'\n')
+            held_to_stored(report, name, text, answers)
+    edges = held_to_model(report)
+    return f'{told} sessions, {calls:,} calls; {edges} plans, entries and memories'
+
+
+def held_to_stored(report, name, text, answers):
+    if not (SESSIONS / f'{name}.in').exists():
+        report.check(False, f'no stored session has the name of the pinned table {name}')
+        return
+    stored = {part: (SESSIONS / f'{name}.{part}').read_bytes() for part in ('in', 'out')}
+    report.agreed(f'{name} (calls)', stored['in'], {'stored': stored['in'], 'proof': text})
+    report.agreed(name, stored['in'], {'stored': stored['out'], 'proof': answers})
+
+
+# ---- The text of a proof
+
+def read(report, file, theorem):
+    """A proof's text without its comments; the theorem over its tables has to be in it."""
+    text = re.sub(r'(?m)^\s*--.*\n', '', (PROOFS / file).read_text())
+    report.check(f'\npub {theorem}\n' in text, f'{file} has no theorem {theorem}')
+    return text
+
+
+def tables(report, text, type, listed):
+    """The definitions of a type, by name; the list under the theorem has each of them, and none is missing."""
+    found = dict(re.findall(rf'(?ms)^unfoldable pub (pinned-\S+) : {type}$\n^\1 =$(.*?)^    \}}$', text))
+    named = re.search(rf'(?m)^{listed} = (.*) ∷ \[\]$', text)
+    expected = {path.stem for path in SESSIONS.glob('pinned-*.in') if path.stem.startswith('pinned-csp-') == (type == 'Session')}
+    report.check(set(found) == expected, f'the pinned tables are {sorted(found)} and the stored sessions {sorted(expected)}')
+    report.check(named and named[1].split(' ∷ ') == list(found), f'the list {listed} does not name each table once')
+    return found
+
+
+def number(word):
+    return int(word, 0)
+
+
+# ---- Sessions.antt
+
+def sessions(report):
+    text = read(report, 'Sessions.antt', 'sessions-hold : allOf seen sessions ≡ allOf due sessions')
+    names = definitions(text)
+    for name, body in tables(report, text, 'Session', 'sessions').items():
+        plan, seed, rows, tallies = session_parts(body)
+        lines = [words(1, *plan, seed)]
+        answers = [model.DONE]
+        for call, answer in expanded(names, rows):
+            code, *arguments = call.split()
+            lines.append(words(CODES[code], *map(number, arguments)))
+            answers.append(tuple(map(number, spelled(names, answer).removesuffix(' ∷ []').split(' ∷ '))))
+        report.check(model_tallies(lines) == tallies, f'{name}: the tallies are not those of the model')
+        yield name, b''.join(line + b'\n' for line in lines), b''.join(map(model.written, answers))
+
+
+def definitions(text):
+    """The names for answers and for rows: parameters and what stands for them."""
+    found = re.findall(r'(?m)^(\w+)((?: [a-z]+)*) = (.* (?:∷ \[\]|▸ .*))$', text)
+    return {name: (parameters.split(), meaning) for name, parameters, meaning in found}
+
+
+def spelled(names, term):
+    """A name and its arguments, put into what the name stands for."""
+    name, *arguments = term.split()
+    parameters, meaning = names[name]
+    given = dict(zip(parameters, arguments, strict=True))
+    return ' '.join(given.get(word, word) for word in meaning.split())
+
+
+def expanded(names, rows):
+    """The calls of rows joined by ++, each with its answer."""
+    for row in re.split(r'\s+\+\+\s+', rows):
+        call, joins, answer = row.partition(' ▸ ')
+        if joins:
+            yield call, answer
+        else:
+            yield from expanded(names, spelled(names, row))
+
+
+def session_parts(body):
+    plan = re.search(r'plan = record \{ kind = (\d+); n = (\d+); i = (\d+); s = (\d+); x = (\d+); period = (\d+) \};', body)
+    seed = re.search(rf'seed = ({NUMERAL});', body)
+    rows = re.search(r'(?s)rows =\s+(.*?);', body)
+    tallies = re.search(r'tallies = (.*) ∷ \[\];', body)
+    return [number(word) for word in plan.groups()], number(seed[1]), rows[1], [number(word) for word in tallies[1].split(' ∷ ')]
+
+
+def model_tallies(lines):
+    program = model.Program()
+    for line in lines:
+        program.answer(line)
+    station = program.station
+    return [station.conforming, station.defective, station.passed, station.missed]
+
+
+# ---- Program.antt and Example.antt: lines of text
+
+QUOTED = r'"((?:[^"\\]|\\.)*)"'
+
+
+def unquoted(text):
+    return text.encode().decode('unicode_escape').encode('latin-1')
+
+
+def exchanged(body):
+    """The lines that are sent and the lines that answer them."""
+    rows = re.findall(rf'{QUOTED} ▸ {QUOTED}', body)
+    return tuple(b''.join(unquoted(row[side]) + b'\n' for row in rows) for side in (0, 1))
+
+
+def runs(report):
+    text = read(report, 'Program.antt', 'runs-hold : allPrinted runs ≡ allDue runs')
+    for name, body in tables(report, text, 'Run', 'runs').items():
+        sent, answers = exchanged(body)
+        torn = [unquoted(re.search(rf'{field} = {QUOTED};', body)[1]) for field in ('torn', 'tornAnswer')]
+        yield name, sent + torn[0], answers + torn[1]
+
+
+def example(report):
+    text = read(report, 'Example.antt', 'example : program exampleInput ≡ exampleOutput')
+    yield 'example', *exchanged(text)
+
+
+# ---- Edges.antt
+
+def held_to_model(report):
+    text = read(report, 'Edges.antt', 'edges-hold : allSeen (plans ++ entries ++ memories) ≡ allDue (plans ++ entries ++ memories)')
+    kinds = {'plan': plan_due, 'find': entry_due, 'words': memory_due}
+    rows = re.findall(r'\b(plan|find|words)((?: \d+)+) ▸ (\w+(?: \d+)*)', text)
+    for kind, numbers, due in rows:
+        said = kinds[kind](*map(number, numbers.split()))
+        report.check(due == said, f'{kind}{numbers}: {due} in the proof, and {said} by the model')
+    for kind in kinds:
+        report.check(any(row[0] == kind for row in rows), f'Edges.antt has no row of {kind}')
+    second_opens(report, [list(map(number, row[1].split())) for row in rows if row[0] == 'plan'])
+    return len(rows)
+
+
+def plan_due(*plan):
+    return 'taken' if model.plan_in_range(*plan) else 'refused 3'
+
+
+def entry_due(*entry):
+    plan = model.table_plan(*entry)
+    return 'absent' if plan is None else ' '.join(['entered', *map(str, plan)])
+
+
+def memory_due(count):
+    return 'taken' if model.room_of([0] * count) else 'refused 1'
+
+
+def second_opens(report, plans):
+    """The second program says the same of the plans."""
+    job = programs.recorder_job(programs.SECOND)
+    for plan in plans:
+        text = words(1, *plan, 0) + b'\n'
+        report.agreed(f'plan {plan}', text, {'model': model.run(text), 'second': programs.output(job, text)})
