@@ -43,10 +43,13 @@ def check(report, pair, options):
     return covered(tally)
 
 
+def portions(options):
+    return max(1, options.count // 500)
+
+
 def tasks(options):
     """What each process does: a seed, a kind of request, and how many or which. The numbers grow with --count."""
-    portions = max(1, options.count // 500)
-    for at in range(portions):
+    for at in range(portions(options)):
         for kind, count in KINDS.items():
             yield f'{options.seed}-{at}', kind, count
     yield options.seed, 'edges', list(edges())

@@ -5,14 +5,17 @@ from collections import namedtuple
 
 Error = namedtuple('Error', 'place text')
 
-# The ways in which the prover says that a fact fails. Whatever else it says is about files that do not fit: a name that is
-# not in scope or not there, a field that a record has not, a text that does not parse, a part too many.
+# The ways in which the prover says that a fact fails: a tactic does not prove its goal, or two types differ. Whatever else
+# it says is about files that do not fit: a name that is not in scope or not there, a field that a record has not, a text
+# that does not parse, a part too many.
 FACTS = re.compile('|'.join((
     r'`search`: no proof of ',
     r'`omega`: the (goal|part `.*` of the goal) does not follow ',
     r'`cc` ',
     r'list the missing equation with its arguments, .*\n  `cc` ',
     r'give a proof of that as the last argument, `(simp|rw) L t`',
+    r'`simp`: no equation of the list has an instance in the goal ',
+    r"`rw`: no occurrence of the path's left endpoint in the goal",
     r'expected type `',
     r'as printed, the two ',
     r'computed as far as they go, the two ',
