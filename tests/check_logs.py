@@ -24,7 +24,7 @@ MISFITS = (
     '`mul-result`: `c` is bound twice in one left-hand side',
     '`draw` has no function `product` for this file to be the proof of: help: delete the folder',
     '`product-spec`: this λ is checked against `URA {1} ?1`, which is not a function or extension (path) type',
-    '`product-spec`: expected type `product.Lts.Closed Pre Post ?0`\n  but this has type `tie.Need-returns → product.Lts.Closed Pre Post ?1`',
+    '`product-spec`: expected type `Lts.Closed Pre Post ?0`\n  but this has type `tie.Need-returns → Lts.Closed Pre Post ?1`',
 )
 FOLLOWING = '`spec`: `returns` was not admitted (it has holes or undetermined implicits, or was rejected), so this cannot be checked'
 OWN, OTHERS = 'proofs/product/Proof.antt:9:14', 'proofs/place/Proof.antt:9:14'

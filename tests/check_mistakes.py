@@ -21,7 +21,7 @@ def check(report, pair, options):
         words = programs.recorder_job(programs.mistaken(number))
         by_stored, by_random = (caught(report, number, words, sessions) for sessions in (stored, random))
         does_its_job = len(stored) - len(by_stored) >= AGREED * len(stored) > 0
-        report.check(does_its_job, f'mistake {number} differs in {len(by_stored)} of {len(stored)} stored sessions: it is no station')
+        report.check(does_its_job, f'mistake {number} shows in {len(by_stored)} of {len(stored)} stored sessions: it is no station')
         report.check(by_stored and by_random, f'no stored session or no random one catches mistake {number}')
         said.append(f'\n    {number}: caught by {len(by_random)} of {TRIES} random sessions, and by {", ".join(by_stored)}')
     return f'{len(said)} of document 01\'s mistakes that look right{"".join(said)}'

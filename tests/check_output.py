@@ -25,7 +25,7 @@ def check(report, pair, options):
         frames.write(FRAMES)
         for program in pair:
             command = programs.recorder_job(program)
-            report.check(programs.output(command, FRAMES) == ANSWERS, f'{program} does not answer the frames to an output that works')
+            report.check(programs.output(command, FRAMES) == ANSWERS, f'{program} does not answer where its output works')
             for way, fails in ways.items():
                 frames.seek(0)
                 said = fails(command, frames)
