@@ -10,6 +10,14 @@ def parser(what):
     return argparse.ArgumentParser(description=what, formatter_class=argparse.RawDescriptionHelpFormatter)
 
 
+def positive(text):
+    """The number of an option that must ask for something."""
+    number = int(text)
+    if number < 1:
+        raise argparse.ArgumentTypeError('it must be 1 or more')
+    return number
+
+
 def start(name, main):
     """Ends with the status that main gives."""
     try:
