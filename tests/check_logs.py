@@ -14,15 +14,18 @@ FACTS = (
     '`V-S`: as printed, the two types differ only where one has `true` (expected)',
     '`numbers-left`: computed as far as they go, the two types are `e + 2 ≤ 8` (expected) and `e + 1 ≤ 8` (found)',
 )
-MISFITS = (
+GONE = (
     '`mul-result`: `tie.Need-mul-result`: module `proofs.product.Tie` has no `Need-mul-result` that can be named from here',
     '`product-spec`: record `proofs.product.Lts.Start` has no field `if1`',
     '`mul-result`: `fit` is not a field of record `mir.Val.Fits`',
     '`mul-result`: `lt-of-le-of-lte` is not in scope; did you mean `lt-of-le-of-lt`?',
     'module `native.Mathlib` has no `Nats` that can be named from here',
+    '`draw` has no function `product` for this file to be the proof of: help: delete the folder',
+)
+MISFITS = (
+    *GONE,
     'expected an expression, found `=`',
     '`mul-result`: `c` is bound twice in one left-hand side',
-    '`draw` has no function `product` for this file to be the proof of: help: delete the folder',
     '`product-spec`: this λ is checked against `URA {1} ?1`, which is not a function or extension (path) type',
     '`product-spec`: expected type `Lts.Closed Pre Post ?0`\n  but this has type `tie.Need-returns → Lts.Closed Pre Post ?1`',
 )
@@ -39,6 +42,8 @@ def check(report, pair, options):
     for text in MISFITS:
         expect(report, log((OWN, text)), False, f'files do not fit: {text}')
         expect(report, log((OWN, text), (OWN, FACTS[0])), False, f'files do not fit, and a fact fails after that: {text}')
+    for text in GONE:
+        expect(report, log((OWN, FACTS[0]), (OWN, text)), False, f'a fact fails, and something is gone after that: {text}')
     expect(report, log((OWN, FOLLOWING)), False, 'it only follows from another')
     expect(report, log(), False, 'nothing is said')
     expect(report, log(verdict='no proof: expected `s` in p; `search` does not close `returns`'), True, 'a search fails')

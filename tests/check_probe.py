@@ -22,10 +22,10 @@ KINDS = {
 NAMES = ('refusal', 'kind', 'number', 'unit', 'value', *FIELDS)
 # Any generator state and either way of hearing are sound, and another C is refused 1: damage there breaks no rule.
 NEVER_UNSOUND = ('C', 's', 'heard')
-# No unit follows the last, and a find in sampling is refused.
+# No unit follows the last, a find in sampling is refused, and no result is owed when a level begins.
 NO_SUCH_TURN = {
-    (probes.UNIT, 'last at its limit'), (probes.FIND, 'row one short of i'), (probes.FIND, 'row at i'),
-    (probes.FIND, 'watch one short of i'), (probes.FIND, 'level 2'),
+    (probes.UNIT, 'last at its limit'), (probes.RESULT, 'a level begins'),
+    *((probes.FIND, limit) for limit in ('row one short of i', 'row at i', 'watch one short of i', 'level 2', 'a level begins')),
 }
 
 

@@ -235,7 +235,7 @@ def begun_goals():
 LIMITS = (
     *(f'next {number:,}' for number in range(EVENT_LIMIT - 2, EVENT_LIMIT + 2)),
     'last at its limit', 'run one short of need', 'need x', 'screened one short of S', 'screened at S',
-    'row one short of i', 'row at i', 'watch one short of i', 'level 2',
+    'row one short of i', 'row at i', 'watch one short of i', 'level 2', 'a level begins',
     'queue empty', 'queue full', 'queue one short of full', 'gap', 'silent at its most',
 )
 
@@ -255,6 +255,7 @@ def limits(st):
         'row at i': sampling and st.row == st.i,
         'watch one short of i': st.watch and st.watched == st.i - 1,
         'level 2': st.level == 2,
+        'a level begins': sampling and model.level_begins(st),
         'queue empty': held == 0,
         'queue full': held == st.C,
         'queue one short of full': held == st.C - 1,

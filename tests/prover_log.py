@@ -22,6 +22,9 @@ FACTS = re.compile('|'.join((
 )))
 # Types that differ are no fact where what differs is the list of parts that a proof is closed with.
 PARTS = re.compile(r'(expected|as printed|computed).*(\bLts\.Closed|\bNeed-)', re.DOTALL)
+# Something that the proof names is gone. A part that is gone moves the numbers of those after it, so the ones before it
+# may fail for that alone: wherever such an error stands, none of the others shows anything.
+GONE = re.compile(r'has no (field |function )?`|is not in scope|is not a field of ')
 FOLLOWS = ' was not admitted (it has holes or undetermined implicits, or was rejected), so this cannot be checked'
 SEARCHED = '`search` does not close'
 # A place is told from the edit's copy of the crate on: what stands above it may be named in any way.
@@ -66,7 +69,8 @@ def first_fact(found, searched):
     """The first error decides: what comes after it may be its echo. Where there is none, a search may have failed."""
     if not found:
         return '' if searched else 'no fact of its own fails'
-    return '' if of_a_fact(found[0]) else f'its proof does not fit: {said(found[0])}'
+    unfit = [error for error in found if not of_a_fact(error) and (error is found[0] or GONE.search(error.text))]
+    return f'its proof does not fit: {said(unfit[0])}' if unfit else ''
 
 
 def said(error):
