@@ -36,6 +36,8 @@ class Peer:
         self.process.stdin.write(part)
         deadline = time.monotonic() + PATIENCE
         while self.unread():
+            if self.process.poll() is not None:
+                raise Silent('the program ended early')
             if time.monotonic() > deadline:
                 raise Silent('what was sent is not read')
 

@@ -8,7 +8,7 @@ from itertools import combinations, zip_longest
 import model
 import probes
 import programs
-from edges import clauses, edges
+from edges import between_blocks, clauses, edges
 from model import FIELDS
 from parallel import in_parallel
 from probes import CALLS, CHECKS, MOST_WORDS, Probes
@@ -16,16 +16,16 @@ from report import SHOWN, cut, save
 
 BATCH_BYTES = 8_000_000
 KINDS = {
-    'sound': 2_000, 'willing': 3_000, 'damaged': 2_000, 'chance': 500, 'opens': 500, 'stacked': 3_000, 'other_rooms': 250,
-    'rooms': 1,
+    'sound': 2_000, 'willing': 3_000, 'damaged': 2_000, 'begun': 500, 'chance': 500, 'opens': 500, 'stacked': 3_000,
+    'other_rooms': 250, 'rooms': 1,
 }
 NAMES = ('refusal', 'kind', 'number', 'unit', 'value', *FIELDS)
 # Any generator state and either way of hearing are sound, and another C is refused 1: damage there breaks no rule.
 NEVER_UNSOUND = ('C', 's', 'heard')
-# No unit follows the last, and a find in sampling is refused.
+# No unit follows the last, a find in sampling is refused, and no result is owed when a level begins.
 NO_SUCH_TURN = {
-    (probes.UNIT, 'last at its limit'), (probes.FIND, 'row one short of i'), (probes.FIND, 'row at i'),
-    (probes.FIND, 'watch one short of i'), (probes.FIND, 'level 2'),
+    (probes.UNIT, 'last at its limit'), (probes.RESULT, 'a level begins'),
+    *((probes.FIND, limit) for limit in ('row one short of i', 'row at i', 'watch one short of i', 'level 2', 'a level begins')),
 }
 
 
@@ -43,10 +43,13 @@ def check(report, pair, options):
     return covered(tally)
 
 
+def portions(options):
+    return max(1, options.count // 500)
+
+
 def tasks(options):
     """What each process does: a seed, a kind of request, and how many or which. The numbers grow with --count."""
-    portions = max(1, options.count // 500)
-    for at in range(portions):
+    for at in range(portions(options)):
         for kind, count in KINDS.items():
             yield f'{options.seed}-{at}', kind, count
     yield options.seed, 'edges', list(edges())
@@ -108,8 +111,10 @@ def goals():
     by_call = [f'{CALLS[call]}: {number}' for call, checks in CHECKS.items() for number in (0, *checks)]
     fields = [f'damaged {field}: 2' for field in FIELDS if field not in NEVER_UNSOUND]
     turns = [(call, limit) for call in probes.ON_A_RECORD for limit in probes.LIMITS if (call, limit) not in NO_SUCH_TURN]
-    sides = [f'edge {clause}: 2' for clause, *_ in clauses()]
-    return numbers + by_call + orders() + fields + sides + [f'{CALLS[call]} at {limit}' for call, limit in turns]
+    sides = [f'edge {clause}: {number}' for clause, *_ in clauses() for number in (0, 2)]
+    sides += [f'edge {name}: 0' for name, _ in between_blocks()]
+    limits = [f'{CALLS[call]} at {limit}' for call, limit in turns]
+    return [*numbers, *by_call, *orders(), *fields, *sides, *probes.begun_goals(), *limits]
 
 
 def orders():

@@ -1,4 +1,7 @@
-"""Seeded random sessions: the model, the recorder and the second program, byte for byte."""
+"""Seeded random sessions: the model, the recorder and the second program, byte for byte.
+
+Every record that the model reaches in them must be sound, as document 01 says.
+"""
 
 from collections import Counter
 
@@ -14,14 +17,15 @@ def check(report, pair, options):
     jobs = {name: programs.recorder_job(name) for name in pair}
     reached, frames = Counter(), 0
     portions = [(jobs, options.seed, start, min(PORTION, options.count - start)) for start in range(0, options.count, PORTION)]
-    for sent, counts, agreed, differing in in_parallel(run_portion, portions):
+    for sent, counts, agreed, differing, unsound in in_parallel(run_portion, portions):
         frames += sent
         reached.update(counts)
         report.passed += agreed
         for name, text, outputs in differing:
             report.agreed(name, text, outputs)
+        report.check(not unsound, f'the model reaches a record that is not sound: {", ".join(unsound)}')
     report.reached(reached, GOALS)
-    return f'{options.count:,} sessions, {frames:,} frames' + listing(reached)
+    return f'{options.count:,} sessions, {frames:,} frames, every record reached is sound' + listing(reached)
 
 
 def listing(reached):
@@ -37,18 +41,20 @@ def listing(reached):
 
 
 def run_portion(portion):
-    """Some sessions, in a process of their own: frames sent, goals reached, how many agreed, and those that did not."""
+    """Some sessions, in a process of their own: frames sent, goals reached, how many agreed, those that did not, and the
+    frames after which a record is not sound."""
     jobs, seed, start, count = portion
-    frames, reached, agreed, differing = 0, Counter(), 0, []
+    frames, reached, agreed, differing, unsound = 0, Counter(), 0, [], []
     for at in range(start, start + count):
         driver, text, outputs = run_session(jobs, f'{seed}-{at}')
         frames += len(driver.lines)
         reached.update(driver.watcher.count)
+        unsound += [f'session {seed}-{at} after frame {line}' for line in driver.unsound]
         if len(set(outputs.values())) == 1:
             agreed += 1
         else:
             differing.append((f'random-{seed}-{at}', text, outputs))
-    return frames, reached, agreed, differing
+    return frames, reached, agreed, differing, unsound
 
 
 def run_session(jobs, name):

@@ -2,7 +2,7 @@
 
 import random
 
-from model import CSP_F, CSP_T, CSP_V, SCREENING, TABLE_V_AQL, UNIT_LIMIT, refused, written
+from model import CSP_F, CSP_T, CSP_V, SCREENING, TABLE_V_AQL, UNIT_LIMIT, refused, sound, written
 from reached import Watcher
 from script import Script, words
 
@@ -28,11 +28,14 @@ class Driver(Script):
         self.watcher = Watcher()
         self.weights = PROFILES[self.random.choice(list(PROFILES))]
         self.bad_share = 0.0
+        self.unsound = []
 
     def line(self, text):
         before = self.watcher.view(self.station)
         answer = super().line(text)
         self.watcher.observe(text, before, answer, self.station)
+        if self.station and not sound(self.station):
+            self.unsound.append(len(self.lines))
         return answer
 
     def chance(self, share):

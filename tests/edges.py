@@ -1,6 +1,7 @@
 """Each clause of "A sound record" at its edge: the last record that it lets pass and the first that it does not.
 
 The two differ from one plain record in the named fields alone, so that no other clause can speak for the one at hand.
+Where a clause does not hold of a plan, records that it would refuse are there to be taken.
 """
 
 import model
@@ -40,6 +41,7 @@ def clauses():
     yield from tally_clauses()
     yield from screening_clauses()
     yield from sampling_clauses()
+    yield from beginning_clauses()
     yield from number_clauses()
 
 
@@ -106,6 +108,33 @@ def sampling_clauses():
     yield 'no watch under other plans', but(CSP_2), SAMPLING, {}, dict(watch=1)
 
 
+def beginnings():
+    """Where a record tells that a level has just begun: a name, the type and the level."""
+    yield from ((f'CSP-T level {level}', CSP_T, level) for level in (0, 1))
+    yield 'CSP-V', CSP_V, 0
+
+
+def beginning_clauses():
+    """The chosen place is 0 when a level begins, and free once a row, a place or owed shows that it began before."""
+    for name, type, level in beginnings():
+        last = 4 * 2 ** level - 1
+        begun = dict(level=level, row=0, place=0)
+        for chosen in (1, last):
+            yield f'chosen 0, not {chosen}, when {name} begins', [type], SAMPLING, dict(begun, chosen=0), dict(begun, chosen=chosen)
+        not_yet = dict(begun, chosen=last)
+        yield f'{name} begins with no row', [type], SAMPLING, dict(not_yet, row=1), not_yet
+        yield f'{name} begins at place 0', [type], SAMPLING, dict(not_yet, place=1), not_yet
+        yield f'{name} begins with nothing owed', [type], SAMPLING, dict(not_yet, **OWED), not_yet
+
+
+def between_blocks():
+    """Records with nothing to tell a level that begins from a place between two blocks: any chosen place is sound."""
+    for name, type, level in (('CSP-1', CSP_1, 0), ('CSP-2', CSP_2, 0), ('CSP-F', CSP_F, 0), ('CSP-T level 2', CSP_T, 2)):
+        for chosen in (0, 1, 4 * 2 ** level - 1):
+            fields = dict(level=level, row=0, place=0, chosen=chosen, watch=0, watched=0)
+            yield f'{name} between two blocks, chosen {chosen}', station({**plain(type, SAMPLING), **fields})
+
+
 def number_clauses():
     last, past = (dict.fromkeys(('told', 'oldest', 'next'), EVENT_LIMIT + 1 + over) for over in (0, 1))
     yield 'told from 1', ALL, SAMPLING, dict(told=1, oldest=2, next=10), dict(told=0, oldest=2, next=10)
@@ -123,7 +152,10 @@ def station(fields):
 
 
 def edges():
-    """Clause, the sound record and the unsound one."""
+    """Clause, the sound record and the unsound one; and where there is no clause, the sound record alone."""
+    for name, sound in between_blocks():
+        assert model.sound(sound), name
+        yield name, sound
     for clause, types, phase, kept, broken in clauses():
         for type in types:
             sound, unsound = (station({**plain(type, phase), **change}) for change in (kept, broken))

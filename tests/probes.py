@@ -4,6 +4,7 @@ import struct
 
 import model
 from model import EVENT_LIMIT, LEAST_ROOM, MOST_ROOM, SAMPLING, SCREENING, WORD, Station
+from reached import PLANS
 from records import Records
 
 OPEN, UNIT, RESULT, INTERRUPT, FIND, TICK, TAKE = range(1, 8)
@@ -92,6 +93,13 @@ class Probes(Records):
             for field in self.fields_of(st):
                 yield self.request(f'damaged {field}', self.any_call(), self.with_damage(st, field), queue)
 
+    def begun(self, count):
+        """Records that look like a level's beginning, with the chosen place 0 or another."""
+        for _ in range(count):
+            room = self.random.choice(SMALL_ROOMS)
+            st = self.first_in_block(room)
+            yield self.request(begun_as(st.type, st.level, st.chosen == 0), self.any_call(), st, self.memory(room))
+
     def chance(self, count):
         """Records of chance words, mostly with a memory that fits."""
         for _ in range(count):
@@ -166,6 +174,7 @@ class Probes(Records):
     def owing_nothing(self, made):
         made.st.missed += made.st.owed
         made.st.owed = 0
+        self.as_begun(made.st)
 
     def nothing_to_recall(self, made):
         if made.st.phase == SCREENING:
@@ -209,10 +218,24 @@ def applying(made):
     return [number for number in CHECKS[made.call] if applies[number]]
 
 
+def begun_as(type, level, zero):
+    """The name of such a record."""
+    return f'begun {PLANS[type]} level {level}, chosen {"0" if zero else "not 0"}'
+
+
+def begun_goals():
+    """Both sides for each type and level: only under CSP-T below level 2 and under CSP-V is a chosen place refused."""
+    for type in PLANS:
+        for level in range(3 if type == model.CSP_T else 1):
+            told = type == model.CSP_V or (type == model.CSP_T and level < 2)
+            yield f'{begun_as(type, level, True)}: 0'
+            yield f'{begun_as(type, level, False)}: {2 if told else 0}'
+
+
 LIMITS = (
     *(f'next {number:,}' for number in range(EVENT_LIMIT - 2, EVENT_LIMIT + 2)),
     'last at its limit', 'run one short of need', 'need x', 'screened one short of S', 'screened at S',
-    'row one short of i', 'row at i', 'watch one short of i', 'level 2',
+    'row one short of i', 'row at i', 'watch one short of i', 'level 2', 'a level begins',
     'queue empty', 'queue full', 'queue one short of full', 'gap', 'silent at its most',
 )
 
@@ -232,6 +255,7 @@ def limits(st):
         'row at i': sampling and st.row == st.i,
         'watch one short of i': st.watch and st.watched == st.i - 1,
         'level 2': st.level == 2,
+        'a level begins': sampling and model.level_begins(st),
         'queue empty': held == 0,
         'queue full': held == st.C,
         'queue one short of full': held == st.C - 1,

@@ -93,6 +93,25 @@ class Records:
             st.row = self.pick(0, st.i - 1)
         if st.type == CSP_2 and self.random.random() < 0.6:
             st.watch, st.watched = 1, self.pick(0, st.i - 1)
+        self.as_begun(st)
+
+    def first_in_block(self, room):
+        """A block's first unit comes next, with no row and nothing owed: sound or not, as the plan and the chosen place are."""
+        st = Station()
+        self.plan(st)
+        st.C, st.s = room, self.word()
+        self.tallies(st)
+        st.missed, st.owed = st.missed + st.owed, 0
+        st.phase = model.SAMPLING
+        st.level = self.random.randrange(3) if st.type == CSP_T else 0
+        st.chosen = self.pick(0, model.block_length(st) - 1)
+        self.numbers(st)
+        return st
+
+    def as_begun(self, st):
+        """Where the fields tell of a level that has just begun, no place has been chosen in it."""
+        if st.phase == model.SAMPLING and model.level_begins(st):
+            st.chosen = 0
 
     def numbers(self, st):
         self.numbers_from(st, self.random.choice((2, 3, st.C + 1, st.C + 2, self.pick(2, EVENT_LIMIT + 1))))

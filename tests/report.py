@@ -56,9 +56,13 @@ def difference(name, text, outputs):
 
 
 def save(name, text):
-    BUILD.mkdir(exist_ok=True)
+    """Where the session is kept; where it cannot be, that is said, and the disagreement all the same."""
     path = BUILD / f'disagreement-{name.replace("/", "-").replace(" ", "-")}.in'
-    path.write_bytes(text)
+    try:
+        BUILD.mkdir(exist_ok=True)
+        path.write_bytes(text)
+    except OSError as why:
+        return f'a session that could not be kept ({why.strerror})'
     return f'{path.parent.name}/{path.name}'
 
 
