@@ -1,0 +1,100 @@
+"""What every command in bin/ does alike: it says in one line why it cannot go on, and ends with a status that tells."""
+
+import argparse
+import os
+import signal
+import sys
+
+FAILED = 1       # the work was done, and what was looked at is not well
+CANNOT = 2       # the work could not be done: usage, a file, the kit, the disk
+BY_SIGNAL = 128  # and the signal's number
+
+
+class Fault(Exception):
+    """Why a command cannot go on, in words for its user."""
+
+    def __init__(self, why, status=CANNOT):
+        super().__init__(why)
+        self.status = status
+
+
+class Stopped(BaseException):
+    """A signal that asks the command to end; what it started ends with it."""
+
+    def __init__(self, number, frame=None):
+        super().__init__(number)
+        self.number = number
+
+
+def stop(number, frame):
+    raise Stopped(number)
+
+
+def say(name, text):
+    """A line on standard error, where there is one."""
+    if sys.stderr is not None:
+        try:
+            print(f'{name}: {text}', file=sys.stderr, flush=True)
+        except OSError:
+            pass  # nobody is left who could be told
+
+
+def plainly(why):
+    """An error of the system in words: the file, if one is named, and what is wrong with it."""
+    text = why.strerror or str(why)
+    return f'{why.filename}: {text}' if why.filename else f'cannot write the output: {text}'
+
+
+def end_by_pipe():
+    """A reader that closes early, as `head` does, ends a command without a word, as it ends any other."""
+    signal.signal(signal.SIGPIPE, signal.SIG_DFL)
+    os.kill(os.getpid(), signal.SIGPIPE)
+
+
+class Help(argparse.Action):
+    """Prints the usage. The library's own action takes a full disk for success."""
+
+    def __call__(self, parser, given, values, option=None):
+        sys.stdout.write(parser.format_help())
+        parser.exit()
+
+
+def parser(name, text):
+    """A reader of options; the command's own text is its description."""
+    made = argparse.ArgumentParser(prog=name, description=text, add_help=False, formatter_class=argparse.RawDescriptionHelpFormatter)
+    made.add_argument('-h', '--help', action=Help, nargs=0, help='print this and end')
+    return made
+
+
+def run(name, main):
+    """Runs a command to its end. Nothing is left for the interpreter to flush, which would complain in its own words."""
+    for number in (signal.SIGINT, signal.SIGTERM, signal.SIGHUP):
+        signal.signal(number, stop)
+    os._exit(status_of(name, main))
+
+
+def status_of(name, main):
+    try:
+        if sys.stdout is None:
+            raise Fault('standard output is closed')
+        status = finished(main)
+        sys.stdout.flush()
+        return status
+    except Fault as fault:
+        say(name, fault)
+        return fault.status
+    except Stopped as stopped:
+        return BY_SIGNAL + stopped.number
+    except BrokenPipeError:
+        end_by_pipe()
+    except OSError as why:
+        say(name, plainly(why))
+    return CANNOT
+
+
+def finished(main):
+    """The status that a command comes to; the reader of its options ends by leaving."""
+    try:
+        return main()
+    except SystemExit as left:
+        return left.code or 0
