@@ -1,6 +1,7 @@
 """What every command in bin/ does alike: it says in one line why it cannot go on, and ends with a status that tells."""
 
 import argparse
+import errno
 import os
 import signal
 import sys
@@ -8,6 +9,7 @@ import sys
 FAILED = 1       # the work was done, and what was looked at is not well
 CANNOT = 2       # the work could not be done: usage, a file, the kit, the disk
 BY_SIGNAL = 128  # and the signal's number
+NO_ROOM = (errno.ENOSPC, errno.EDQUOT, errno.EFBIG, errno.EIO)
 
 
 class Fault(Exception):
@@ -40,9 +42,11 @@ def say(name, text):
 
 
 def plainly(why):
-    """An error of the system in words: the file, if one is named, and what is wrong with it."""
+    """An error of the system in words: what it befell, and what is wrong."""
     text = why.strerror or str(why)
-    return f'{why.filename}: {text}' if why.filename else f'cannot write the output: {text}'
+    if why.filename:
+        return f'{why.filename}: {text}'
+    return f'cannot write the output: {text}' if why.errno in NO_ROOM else text
 
 
 def end_by_pipe():

@@ -67,7 +67,8 @@ class History:
                 raise Impossible('a second START' if kind == START else 'event 1 is START')
             if unit > MOST_UNITS:
                 raise Impossible(f'unit numbers end at {MOST_UNITS:,}')
-            self.answer_due(kind, unit, value)
+            if self.due is not None or kind == PHASE or kind == LONG:
+                self.answer_due(kind, unit, value)
             RULES[kind](self, number, unit, value)
         except Impossible as why:
             self.take_as_is(unit)

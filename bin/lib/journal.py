@@ -21,21 +21,26 @@ class Journal:
 
     def hear(self, line, kind, number, unit, value):
         """Accounts for an entry. Answers what is wrong with it, in words, or None."""
+        if number == self.last + 1 <= MOST_EVENTS and kind in RULES:
+            self.last = number  # an event in its place, as nearly all are
+            return self.possible(line, kind, number, unit, value)
         fault = alone_fault(kind, number, unit, value)
-        if fault is None:
-            last = number + value - 1 if kind == GAP else number
-            if number <= self.last:
-                return self.out_of_order(line, kind, number, last)
-            hole = self.hole_before(number)
-            self.last = last
-            if kind == GAP:
-                self.history.forget()
-                join(self.marked, number, last)
-                return hole
-            fault = self.history.hear(kind, number, unit, value)
-            if fault is None:
-                return hole
-        return self.cannot_be(line, fault)
+        if fault is not None:
+            return self.cannot_be(line, fault)
+        last = number + value - 1 if kind == GAP else number
+        if number <= self.last:
+            return self.out_of_order(line, kind, number, last)
+        hole = self.hole_before(number)
+        self.last = last
+        if kind == GAP:
+            self.history.forget()
+            join(self.marked, number, last)
+            return hole
+        return self.possible(line, kind, number, unit, value) or hole
+
+    def possible(self, line, kind, number, unit, value):
+        fault = self.history.hear(kind, number, unit, value)
+        return None if fault is None else self.cannot_be(line, fault)
 
     def hole_before(self, number):
         if number == self.last + 1:

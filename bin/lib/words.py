@@ -4,8 +4,10 @@ Document 01 gives each number its meaning: a refusal, a kind of event, a value.
 """
 
 import re
+from struct import Struct
 
-LINE = re.compile(rb'([0-9A-F]{2}) ([0-9A-F]{2}) ([0-9A-F]{8}) ([0-9A-F]{8}) ([0-9A-F]{8})\n')
+NUMBERS = Struct('>BBIII')
+LINE = re.compile(rb'[0-9A-F]{2} [0-9A-F]{2} [0-9A-F]{8} [0-9A-F]{8} [0-9A-F]{8}\n')
 ANSWERS = re.compile(rb'(?:[0-9A-F]{2} [0-9A-F]{2}(?: [0-9A-F]{8}){3}\n)+[0-9A-F ]{0,32}')  # the last may be torn
 START, PHASE, LONG, DEFECT, MISSED, SILENCE, CHECK, INTERRUPT, GAP = range(1, 10)
 
@@ -34,6 +36,7 @@ KINDS = {
 PHASES = ('screening', 'sampling level 0', 'sampling level 1', 'sampling level 2')
 PLACES = ('in screening', 'in sampling')
 ORDERS = ('pass', 'inspect')
+NO_UNIT = ' ' * 9
 SHOWN = 5
 
 
@@ -77,26 +80,23 @@ SAYING = {
     CHECK: lambda unit, value: without_value('a defect found in a screened unit', value),
     INTERRUPT: lambda unit, value: without_value('screening starts anew', value),
 }
-ENTRY = '{:<9}  {:>9}  {:>9}  {}'
-
-
 def entry(kind, number, unit, value):
     """The columns of an event or of a marker: its name, its number, its unit, and what it says."""
     if kind == GAP:
-        words = f'{counted(value, "event")} dropped: {span(number, number + value - 1)}'
+        said = f'{counted(value, "event")} dropped: {span(number, number + value - 1)}'
     elif kind in SAYING:
-        words = SAYING[kind](unit, value)
+        said = SAYING[kind](unit, value)
     else:
-        words = f'value {value:,}'
-    return f'{KINDS.get(kind, f"kind {kind}"):<9}  {number:>9,}  {f"{unit:,}" if unit else "":>9}  {words}'
+        return f'kind {kind:<4}  {number:>9,}  {unit:>9,}  value {value:,}'
+    seen = f'{unit:>9,}' if unit else NO_UNIT
+    return f'{KINDS[kind]:<9}  {number:>9,}  {seen}  {said}'
 
 
 # ---- Reading
 
 def answer(line):
     """The five numbers of an answer line, or None where it is none."""
-    found = LINE.fullmatch(line)
-    return tuple(int(part, 16) for part in found.groups()) if found else None
+    return NUMBERS.unpack(bytes.fromhex(line.decode())) if LINE.fullmatch(line) else None
 
 
 def all_answers(text):

@@ -1,0 +1,95 @@
+"""The phases over the unit numbers, as stretches and as a strip of text."""
+
+from lib.history import SCREENING
+from lib.words import CHECK, DEFECT, MISSED, PHASES, span
+
+NOT_SEEN = 'missed'
+NOT_TOLD = 'not told'
+SIGNS = {**dict(zip(PHASES, '#012')), NOT_SEEN: '.', NOT_TOLD: '?'}
+KEY = '# screening, 0 1 2 sampling level, . missed, ? not told'
+WIDTH = 100
+MOST_ROWS = 24
+
+
+class Phases:
+    """The phase that each unit was handled in, as far as the entries told so far show it."""
+
+    def __init__(self):
+        self.stretches = []  # the first unit, the last, the phase or None
+        self.covered = 0
+
+    def through(self, unit, phase):
+        """The units up to this one were handled in this phase."""
+        if unit > self.covered:
+            self.stretches.append((self.covered + 1, unit, phase))
+            self.covered = unit
+
+    def told(self, before, kind, unit, value):
+        """An entry tells that the phase before it held up to its unit. After a marker it may tell that unit's own."""
+        if kind == MISSED:
+            self.through(unit - 1, before)
+            self.through(unit + value - 1, SCREENING)
+        elif before is None and kind in (DEFECT, CHECK) and value == SCREENING:
+            self.through(unit - 1, None)
+            self.through(unit, SCREENING)
+        else:
+            self.through(unit, before)
+
+    def labelled(self, last, missed):
+        """Each stretch of units up to the last, with what it was; units that never came are missed in any phase."""
+        self.through(last, None)
+        marks = sorted({1, *(edge for first, end, *_ in (*self.stretches, *missed) for edge in (first, end + 1))})
+        labels = Labels([(first, end, NOT_TOLD if phase is None else PHASES[phase]) for first, end, phase in self.stretches])
+        unseen = Labels([(first, end, NOT_SEEN) for first, end in missed])
+        parts = []
+        for first, after in zip(marks, marks[1:]):
+            label = unseen.at(first) or labels.at(first)
+            if parts and parts[-1][2] == label:
+                first = parts.pop()[0]
+            parts.append((first, after - 1, label))
+        return [part for part in parts if part[0] <= last]
+
+
+class Labels:
+    """Looks up stretches in order."""
+
+    def __init__(self, stretches):
+        self.stretches, self.next = stretches, 0
+
+    def at(self, unit):
+        while self.next < len(self.stretches) and self.stretches[self.next][1] < unit:
+            self.next += 1
+        found = self.next < len(self.stretches) and self.stretches[self.next][0] <= unit
+        return self.stretches[self.next][2] if found else None
+
+
+# ---- To be looked at
+
+def rows(parts):
+    """A row for each stretch, and how many more there are."""
+    shown = [(span(first, last), label) for first, last, label in parts[:MOST_ROWS]]
+    width = max((len(units) for units, _ in shown), default=0)
+    more = len(parts) - MOST_ROWS
+    return [f'{units:<{width}}  {label}' for units, label in shown] + ([f'and {more:,} more stretches'] if more > 0 else [])
+
+
+def strip(parts, last):
+    """One character for each few units, which shows what most of them were."""
+    each = -(-last // WIDTH)
+    signs, at = '', 0
+    for first in range(1, last + 1, each):
+        end = min(first + each - 1, last)
+        while parts[at][1] < first:
+            at += 1
+        signs += SIGNS[most(parts, at, first, end)]
+    return signs, each
+
+
+def most(parts, at, first, end):
+    """What most of the units from first to end were; of equals, the earliest."""
+    counts = {}
+    while at < len(parts) and parts[at][0] <= end:
+        start, last, label = parts[at]
+        counts[label] = counts.get(label, 0) + min(last, end) - max(start, first) + 1
+        at += 1
+    return max(counts, key=counts.get)

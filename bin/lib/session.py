@@ -1,0 +1,172 @@
+"""A session as its frames and answers tell it: a row for each frame, and a summary.
+
+It claims nothing that the frames and answers do not show. The phases come from the journal's entries that were taken;
+where a marker stands for them, or no take has told them yet, the phase is not told.
+"""
+
+from collections import Counter
+
+from lib import calls, words
+from lib.calls import FIND, INTERRUPTED, NAMES, NO_FRAME, OPEN, RESULT, TABLE, TAKE, TICK, UNIT
+from lib.history import SCREENING
+from lib.journal import IMPOSSIBLE, Journal, plain_fault
+from lib.phases import Phases
+from lib.words import CHECK, DEFECT, GAP, counted, span
+
+CALL = 22
+HEAD = f'{"frame":>9}  {"call and answer":<{CALL}}  {"event":<9}  {"number":>9}  {"unit":>9}  what it says\n'
+NOTE = f'{"":>9}  ! {{}}\n'
+
+
+class Tally:
+    """The units, each counted once, as the accepted calls tell them."""
+
+    def __init__(self):
+        self.last = self.conforming = self.defective = self.passed = self.owed = 0
+        self.missed = []
+
+    def unit(self, number, order):
+        if number > self.last + 1:
+            self.missed.append((self.last + 1, number - 1))
+        self.last = number
+        self.owed = order
+        self.passed += 1 - order
+
+    def result(self, value):
+        self.owed = 0
+        if value:
+            self.defective += 1
+        else:
+            self.conforming += 1
+
+    def unseen(self):
+        return sum(last - first + 1 for first, last in self.missed)
+
+
+class Raised:
+    """How many events were raised for certain, and whether more may have been since a take came back empty."""
+
+    def __init__(self):
+        self.least = 0
+        self.more = False
+        self.quiet = True  # no unit since the last tick, or since the open
+
+    def surely(self):
+        self.least += 1
+        self.more = True
+
+    def perhaps(self):
+        self.more = True
+
+    def tick(self):
+        if self.quiet:
+            self.surely()
+        self.quiet = True
+
+
+class Session:
+    def __init__(self):
+        self.journal = Journal()
+        self.tally = Tally()
+        self.raised = Raised()
+        self.phases = Phases()
+        self.plan = None
+        self.calls = Counter()
+        self.refusals = Counter()
+        self.events = Counter()
+        self.told = None      # the last event that was told
+        self.gaps = []        # each stretch that markers name, with the events told before and after it
+        self.empty = 0        # takes that came back empty
+
+    # ---- Hearing
+
+    def hear(self, at, code, said, answer):
+        """The row of a frame and its answer; beneath it what is wrong, where something is."""
+        self.calls[code] += 1
+        refusal, kind, number, unit, value = answer
+        fault = calls.answer_fault(code, answer)
+        if fault is None and (refusal or not kind):
+            fault = plain_fault(*answer)
+        if fault is not None:
+            raw = '%02X %02X %08X %08X %08X' % answer
+            return self.row(at, f'{calls.asked(code, said)}: {raw}', self.journal.cannot_be(at, fault))
+        if refusal:
+            self.refusals[refusal] += 1
+            return self.row(at, calls.asked(code, said) + calls.refused(code, refusal))
+        if kind:
+            return self.entry(at, kind, number, unit, value)
+        return self.row(at, HEARD[code](self, code, said, value))
+
+    def row(self, at, text, fault=None):
+        return f'{at:>9,}  {text}\n' + (NOTE.format(fault) if fault else '')
+
+    def entry(self, at, kind, number, unit, value):
+        """A take that tells an entry."""
+        before = self.journal.history.phase
+        fault = self.journal.hear(at, kind, number, unit, value)
+        if kind == GAP:
+            self.gap(number, number + value - 1)
+        else:
+            self.event(kind, number, unit)
+            if fault is None:
+                self.phases.told(before, kind, unit, value)
+        self.raised.least = max(self.raised.least, self.journal.last)
+        return self.row(at, f'{"take":<{CALL}}  {words.entry(kind, number, unit, value)}', fault)
+
+    def event(self, kind, number, unit):
+        self.events[kind] += 1
+        self.told = (kind, number, unit)
+        if self.gaps and self.gaps[-1]['after'] is None:
+            self.gaps[-1]['after'] = self.told
+
+    def gap(self, first, last):
+        """Markers that follow each other name one stretch to a reader."""
+        if self.gaps and self.gaps[-1]['after'] is None:
+            self.gaps[-1]['last'] = last
+        else:
+            self.gaps.append({'first': first, 'last': last, 'before': self.told, 'after': None})
+
+    # ---- Accepted calls that tell no entry: what each does here, and its words
+
+    def opened(self, code, said, value):
+        self.plan = calls.plan(*said) if code == OPEN else calls.table_entry(*said)
+        self.raised.surely()
+        return calls.asked(code, said)
+
+    def unit(self, code, said, value):
+        number, = said
+        first = self.tally.last + 1
+        self.tally.unit(number, value)
+        self.raised.quiet = False
+        if number > first:
+            self.raised.surely()
+        return f'unit {number:,}: {words.ORDERS[value]}' + calls.skipped(first, number - 1)
+
+    def result(self, code, said, value):
+        self.tally.result(*said)
+        if said[0]:
+            self.raised.surely()
+        else:
+            self.raised.perhaps()
+        return calls.asked(code, said)
+
+    def interrupted(self, code, said, value):
+        self.raised.surely()
+        return calls.asked(code, said)
+
+    def ticked(self, code, said, value):
+        self.raised.tick()
+        return calls.asked(code, said)
+
+    def nothing(self, code, said, value):
+        """Every event so far has been told, so the phase in force is that of the units so far."""
+        self.empty += 1
+        self.raised.least, self.raised.more = self.journal.last, False
+        self.phases.through(self.tally.last, self.journal.history.phase)
+        return 'take: nothing to tell'
+
+
+HEARD = {
+    OPEN: Session.opened, TABLE: Session.opened, UNIT: Session.unit, RESULT: Session.result, TICK: Session.ticked,
+    INTERRUPTED: Session.interrupted, FIND: Session.interrupted, TAKE: Session.nothing,
+}
