@@ -2,7 +2,7 @@
 
 import re
 
-from lib.words import ILL_FORMED, NO_ENTRY, NO_PLAN, NO_RESULT, NOT_OPEN, REFUSALS, SECOND_OPEN, counted, span
+from lib.words import NO_ENTRY, NO_PLAN, NO_RESULT, NOT_OPEN, REFUSALS, SECOND_OPEN, counted, quoted, span
 
 OPEN, UNIT, RESULT, INTERRUPTED, FIND, TICK, TAKE, TABLE = range(1, 9)
 NO_FRAME = 0
@@ -32,11 +32,12 @@ REFUSED = {
 
 
 def read_frame(line):
-    """The code and the words of a line, its line feed cut off. What is no frame has the code NO_FRAME."""
-    if len(line) > LONGEST_LINE or not FRAME.fullmatch(line):
-        return NO_FRAME, ()
-    code, *words = (int(part, 16) for part in line.split(b' '))
-    return (code, tuple(words)) if len(words) in WORDS.get(code, ()) else (NO_FRAME, ())
+    """The code and the words of a line, its line feed cut off. What is no frame has the code NO_FRAME and the line."""
+    if len(line) <= LONGEST_LINE and FRAME.fullmatch(line):
+        code, *words = (int(part, 16) for part in line.split(b' '))
+        if len(words) in WORDS.get(code, ()):
+            return code, tuple(words)
+    return NO_FRAME, (line,)
 
 
 def read_frames(text):
@@ -51,7 +52,7 @@ def read_frames(text):
             if len(line) < 3:
                 known[line] = frame  # ticks and takes are most of what comes again
         frames.append(frame)
-    return frames + [(NO_FRAME, ())] if torn else frames
+    return frames + [(NO_FRAME, (torn, 'with no line feed'))] if torn else frames
 
 
 # ---- What a call asks, in words
@@ -81,7 +82,7 @@ def result_asked(value):
 
 
 ASKING = {
-    NO_FRAME: lambda: ILL_FORMED.split(' ', 1)[1],
+    NO_FRAME: lambda *line: 'ill-formed frame',
     OPEN: lambda *words: f'open {plan(*words)}',
     TABLE: lambda *words: f'open {table_entry(*words)}',
     UNIT: lambda number: f'unit {number:,}',
@@ -95,10 +96,13 @@ ASKING = {
 
 # ---- What was answered, in words
 
-def refused(code, refusal):
-    """A refusal of a call, with its reason unless the call has said it already."""
+def refused(code, words, refusal):
+    """A call and its refusal, with the reason; of an ill-formed frame the line itself."""
+    if code == NO_FRAME:
+        line, *torn = words
+        return ' '.join([f'ill-formed frame: refused {refusal}  {quoted(line)}', *torn])
     why = REFUSED[code].get(refusal) or REFUSALS[refusal]
-    return f': refused {refusal}' if code == NO_FRAME else f': refused {refusal}, {why}'
+    return f'{asked(code, words).replace(": ", " ")}: refused {refusal}, {why}'
 
 
 def skipped(first, last):

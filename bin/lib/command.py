@@ -73,7 +73,8 @@ def parser(name, text):
 def run(name, main):
     """Runs a command to its end. Nothing is left for the interpreter to flush, which would complain in its own words."""
     for number in (signal.SIGINT, signal.SIGTERM, signal.SIGHUP):
-        signal.signal(number, stop)
+        if signal.getsignal(number) != signal.SIG_IGN:  # nohup and a shell's `&` have some ignored, and mean it
+            signal.signal(number, stop)
     os._exit(status_of(name, main))
 
 

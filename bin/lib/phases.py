@@ -1,7 +1,7 @@
 """The phases over the unit numbers, as stretches and as a strip of text."""
 
 from lib.history import SCREENING
-from lib.words import CHECK, DEFECT, MISSED, PHASES, span
+from lib.words import CHECK, DEFECT, LONG, MISSED, PHASE, PHASES, span
 
 NOT_SEEN = 'missed'
 NOT_TOLD = 'not told'
@@ -29,9 +29,9 @@ class Phases:
         if kind == MISSED:
             self.through(unit - 1, before)
             self.through(unit + value - 1, SCREENING)
-        elif before is None and kind in (DEFECT, CHECK) and value == SCREENING:
+        elif before is None:
             self.through(unit - 1, None)
-            self.through(unit, SCREENING)
+            self.through(unit, own_phase(kind, value))
         else:
             self.through(unit, before)
 
@@ -48,6 +48,13 @@ class Phases:
                 first = parts.pop()[0]
             parts.append((first, after - 1, label))
         return [part for part in parts if part[0] <= last]
+
+
+def own_phase(kind, value):
+    """The phase of an entry's own unit, where the entry alone tells it: a change to sampling comes from the step before."""
+    if kind == PHASE and value > SCREENING:
+        return value - 1
+    return SCREENING if kind in (CHECK, LONG) or (kind == DEFECT and value == SCREENING) else None
 
 
 class Labels:

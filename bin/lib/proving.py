@@ -26,6 +26,7 @@ SECONDS = {
     'rules': 8, 'draw': 3, 'tables': 7, 'record': 16, 'station': 80, 'frames': 50, 'recorder': 30, 'probe': 40, 'rooms': 12,
 }
 AT_ONCE = 1.5   # seconds in which rt says that nothing has changed, so that no line need be shown
+ONE_TIME = 30   # seconds that may lie between a program and rt's stamp of it
 PATIENCE = 5    # seconds that a process has to end in before it is killed
 TAIL = 12
 LITTLE = 1 << 16
@@ -70,8 +71,9 @@ class Program:
         """Of the sources and the kit, and of the program."""
         made_of = hashlib.sha256()
         kit = programs.kit() / 'KIT-ID'
-        for path in [*([kit] if kit.is_file() else []), *self.sources()]:
-            made_of.update(f'{path.name} {path.parent} {path.stat().st_size}\n'.encode() + path.read_bytes())
+        made_of.update(kit.read_bytes() if kit.is_file() else b'')
+        for path in self.sources():
+            made_of.update(f'\n{path.relative_to(self.root)} {path.stat().st_size}\n'.encode() + path.read_bytes())
         return f'{made_of.hexdigest()} {hashlib.sha256(self.path.read_bytes()).hexdigest()}\n'
 
     def newest(self):
@@ -98,10 +100,10 @@ class Program:
         return None
 
     def as_rt_left_it(self):
-        """Whether the program lies in time between its sources and rt's stamp, as it does once rt has made it."""
-        if self.fault():
+        """Whether the program is of one time with rt's stamp, which rt writes as soon as it has made the program."""
+        if not (self.path.is_file() and self.stamp.is_file()):
             return False
-        return not self.stamp.is_file() or self.path.stat().st_mtime_ns <= self.stamp.stat().st_mtime_ns
+        return 0 <= self.stamp.stat().st_mtime - self.path.stat().st_mtime <= ONE_TIME
 
 
 # ---- Proving
@@ -144,10 +146,11 @@ class Proof:
         self.program, self.command, self.log = program, command, log
         self.crates = program.crates()
         self.said = False
+        self.open_line = False
 
     def run(self, fault):
         before = self.made()
-        self.why = fault or f'rt is asked about {self.program.name}'
+        self.why = fault or f'target/bin/{self.program.name} is not known to be proved'
         for at, crate in enumerate(self.crates, 1):
             self.check(at, crate)
         if self.made() == before and not self.program.as_rt_left_it():
@@ -183,13 +186,11 @@ class Proof:
     def show(self, at, crate):
         if not self.said:
             about = sum(SECONDS.get(name, 0) for name in self.crates[at - 1:])
-            say(self.command, f'{self.why}; proving takes up to {about} s or more; the prover\'s log: {LOG}')
+            say(self.command, f'{self.why}: proving, about {about} s in all on an idle machine; the prover\'s log is {LOG}')
             self.said = True
         hint = f', about {SECONDS[crate]} s' if crate in SECONDS else ''
         self.write(f'{self.command}: proving {crate}, {at} of {len(self.crates)}{hint}')
         self.open_line = True
-
-    open_line = False
 
     def end_line(self, text):
         if self.open_line:

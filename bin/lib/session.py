@@ -92,7 +92,7 @@ class Session:
             return self.row(at, f'{calls.asked(code, said)}: {raw}', self.journal.cannot_be(at, fault))
         if refusal:
             self.refusals[refusal] += 1
-            return self.row(at, calls.asked(code, said) + calls.refused(code, refusal))
+            return self.row(at, calls.refused(code, said, refusal))
         if kind:
             return self.entry(at, kind, number, unit, value)
         return self.row(at, HEARD[code](self, code, said, value))
@@ -129,7 +129,7 @@ class Session:
     # ---- Accepted calls that tell no entry: what each does here, and its words
 
     def opened(self, code, said, value):
-        self.plan = calls.plan(*said) if code == OPEN else calls.table_entry(*said)
+        self.plan = (code, calls.plan(*said) if code == OPEN else calls.table_entry(*said))
         self.raised.surely()
         return calls.asked(code, said)
 

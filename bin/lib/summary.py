@@ -1,15 +1,16 @@
 """A session in a few lines: its plan, units, events and phases, what was dropped, and one line of verdict."""
 
 from lib import phases, words
-from lib.calls import NAMES
+from lib.calls import FIND, INTERRUPTED, NAMES, NO_FRAME, OPEN, RESULT, TABLE, TAKE, TICK, UNIT
 from lib.words import KINDS, counted, few, span, spans
 
 LABEL = 11
+ORDER = (OPEN, TABLE, UNIT, RESULT, INTERRUPTED, FIND, TICK, TAKE, NO_FRAME)
 
 
 def lines(session):
     """The summary, line for line; the verdict is the last."""
-    parts = [('plan', [session.plan or 'no station was opened']), ('frames', [frames(session)])]
+    parts = [('plan', [plan(session)]), ('frames', [frames(session)])]
     if session.plan:
         parts += [('units', [units(session.tally)]), ('events', [events(session)])]
         parts += [('dropped', dropped(session))] if session.gaps else []
@@ -22,8 +23,17 @@ def lines(session):
 
 # ---- The parts
 
+def plan(session):
+    """The plan that was opened; a table's numbers are not in the frames, and START tells one of them."""
+    if not session.plan:
+        return 'no station was opened'
+    code, text = session.plan
+    told = session.journal.history.clearance
+    return f'{text}; START tells i {told:,}' if code == TABLE and told else text
+
+
 def frames(session):
-    by_call = ', '.join(f'{NAMES[code]} {count:,}' for code, count in sorted(session.calls.items(), key=lambda pair: (not pair[0], pair[0])))
+    by_call = ', '.join(f'{NAMES[code]} {session.calls[code]:,}' for code in ORDER if session.calls[code])
     count = sum(session.refusals.values())
     by_number = ', '.join(f'{times:,} with {number}' for number, times in sorted(session.refusals.items()))
     return f'{sum(session.calls.values()):,}: {by_call}; ' + (f'{count:,} refused: {by_number}' if count else 'none refused')
@@ -34,7 +44,7 @@ def units(tally):
         return 'none has come'
     kinds = [
         (tally.conforming, 'conforming'), (tally.defective, 'defective'), (tally.passed, 'passed'), (tally.unseen(), 'missed'),
-        (tally.owed, 'whose result is owed'),
+        (tally.owed, 'owed a result'),
     ]
     return f'{tally.last:,}: ' + ', '.join(f'{count:,} {name}' for count, name in kinds)
 
@@ -96,7 +106,7 @@ def taken(session, open_end):
     if not gaps:
         return f'{"Event" if last == 1 else "Events"} {span(1, last)}: taken, and none is missing.'
     one = len(gaps) == 1 and gaps[0][0] == gaps[0][1]
-    said = f'{"Event" if one else "Events"} {spans(gaps)} {"was" if one else "were"} dropped, and the marker says so'
+    said = f'{"Event" if one else "Events"} {spans(gaps)} {"was" if one else "were"} dropped, and {"the marker says" if len(gaps) == 1 else "markers say"} so'
     rest = others(gaps, last)
     return f'{said}; {spans(rest)} {"was" if rest[0][0] == rest[-1][1] else "were"} taken.' if rest else f'{said}.'
 

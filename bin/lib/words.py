@@ -38,6 +38,7 @@ PLACES = ('in screening', 'in sampling')
 ORDERS = ('pass', 'inspect')
 NO_UNIT = ' ' * 9
 SHOWN = 5
+LONGEST_QUOTE = 60
 
 
 # ---- Words for numbers
@@ -90,6 +91,12 @@ def entry(kind, number, unit, value):
         return f'kind {kind:<4}  {number:>9,}  {unit:>9,}  value {value:,}'
     seen = f'{unit:>9,}' if unit else NO_UNIT
     return f'{KINDS[kind]:<9}  {number:>9,}  {seen}  {said}'
+
+
+def quoted(line):
+    """A line as text that does no harm to a terminal, cut where it is long."""
+    text = line.decode('ascii', 'backslashreplace')
+    return repr(text[:LONGEST_QUOTE]) + (' ..' if len(text) > LONGEST_QUOTE else '')
 
 
 # ---- Reading
