@@ -76,7 +76,7 @@ SAYING = {
     PHASE: lambda unit, value: named(PHASES, value),
     LONG: lambda unit, value: f'{counted(value, "unit")} screened',
     DEFECT: lambda unit, value: named(PLACES, value),
-    MISSED: lambda unit, value: f'{counted(value, "unit")} not seen: {span(unit, unit + value - 1)}',
+    MISSED: lambda unit, value: f'{counted(value, "unit")} not seen: {span(unit, unit + value - 1)}' if value else 'value 0',
     SILENCE: lambda unit, value: f'{counted(value, "tick")} in a row with no unit',
     CHECK: lambda unit, value: without_value('a defect found in a screened unit', value),
     INTERRUPT: lambda unit, value: without_value('screening starts anew', value),
