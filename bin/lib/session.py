@@ -159,11 +159,20 @@ class Session:
         return calls.asked(code, said)
 
     def nothing(self, code, said, value):
-        """Every event so far has been told, so the phase in force is that of the units so far."""
         self.empty += 1
         self.raised.least, self.raised.more = self.journal.last, False
-        self.phases.through(self.tally.last, self.journal.history.phase)
+        self.all_told()
         return 'take: nothing to tell'
+
+    def all_told(self):
+        """Every event has been told, so the phase in force is that of the units so far."""
+        self.phases.through(self.tally.last, self.journal.history.phase)
+
+    def stretches(self):
+        """The units up to the last, as stretches of one phase each."""
+        if self.empty and not self.raised.more:
+            self.all_told()
+        return self.phases.labelled(self.tally.last, self.tally.missed)
 
 
 HEARD = {

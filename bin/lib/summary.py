@@ -77,7 +77,7 @@ def event(told):
 def phase_lines(session):
     """The stretches in words, and the same as a strip to look at."""
     last = session.tally.last
-    parts = session.phases.labelled(last, session.tally.missed)
+    parts = session.stretches()
     signs, each = phases.strip(parts, last)
     scale = 'one sign a unit' if each == 1 else f'one sign for {each:,} units, as most of them were'
     return [*phases.rows(parts), f'[{signs}]', f'{scale}: {phases.KEY}']

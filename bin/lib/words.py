@@ -38,7 +38,7 @@ PLACES = ('in screening', 'in sampling')
 ORDERS = ('pass', 'inspect')
 NO_UNIT = ' ' * 9
 SHOWN = 5
-LONGEST_QUOTE = 60
+LONGEST_QUOTE = 50
 
 
 # ---- Words for numbers
