@@ -406,9 +406,9 @@ def recorders(report, scratch):
         fails(report, f'a recorder with {name}', scratch.run('session'), status, *said)
     for name, change, said in (
         ('an order to a result', '3s/0$/1/', 'only a unit is given an order'), ('an event to a unit', '2s/^00 00/00 06/', 'only a take'),
-        ('a refusal that a take never gets', '14s/^00/04/', 'a take is never refused with 4'), ('a second START', '11s/.*/00 01 00000002 00000000 00000002/', 'a second START'),
+        ('a refusal that a take never gets', '14s/^00/04/', 'no take is refused with 4'), ('a second START', '11s/.*/00 01 00000002 00000000 00000002/', 'a second START'),
         ('an event that cannot be', '11s/1$/2/', 'no step leads'), ('a lost event', '11s/00000002/00000003/', 'missing before this: 2'),
-        ('a refusal that is none', '2s/^00/0B/', 'never refused with 11'),
+        ('a refusal that is none', '2s/^00/0B/', 'no unit is refused with 11'),
     ):
         scratch.remake(f'{answers} | sed "{change}"')
         done = scratch.run('session')

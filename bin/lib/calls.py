@@ -114,11 +114,11 @@ def answer_fault(code, answer):
     """Why the program could not answer a call so, or None."""
     refusal, kind, number, unit, value = answer
     if refusal and refusal not in REFUSED[code]:
-        return f'{"an" if NAMES[code][0] in "aeiou" else "a"} {NAMES[code]} is never refused with {refusal}'
+        return f'no {NAMES[code]} is refused with {refusal}'
     if not refusal and code == NO_FRAME:
         return 'an ill-formed frame is refused with 9'
     if kind and code != TAKE:
-        return f'only a take tells an event'
+        return 'only a take tells an event'
     if value and not kind and code != UNIT:
         return 'only a unit is given an order'
     return None

@@ -28,8 +28,27 @@ class Stopped(BaseException):
         self.number = number
 
 
+class Unbroken:
+    """A signal that comes in such a block takes effect at its end: what is started or ended there is so as a whole."""
+
+    inside = False
+    kept = None
+
+    def __enter__(self):
+        Unbroken.inside = True
+
+    def __exit__(self, *why):
+        Unbroken.inside = False
+        kept, Unbroken.kept = Unbroken.kept, None
+        if kept is not None:
+            raise Stopped(kept)
+
+
 def stop(number, frame):
-    raise Stopped(number)
+    if Unbroken.inside:
+        Unbroken.kept = number
+    else:
+        raise Stopped(number)
 
 
 def say(name, text):

@@ -76,12 +76,12 @@ class Journal:
         parts.append(f'this file cannot tell what came after {self.last:,}')
         return f'{"Event" if self.last == 1 else "Events"} {span(1, self.last)}: {"; ".join(parts)}.'
 
-    def verdict(self):
+    def verdict(self, noun='line'):
         """A line on what no station could write, or None."""
         if not self.impossible:
             return None
         lines = few([f'{line:,}' for line in self.impossible])
-        return f'No station could write this journal: {counted(len(self.impossible), "line")} cannot be (line {lines}).'
+        return f'No station could write this journal: {counted(len(self.impossible), noun)} cannot be ({noun} {lines}).'
 
 
 def join(stretches, first, last):

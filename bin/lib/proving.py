@@ -5,6 +5,8 @@ proved a program, a seal under target/ holds two digests: of the sources (and th
 hold, the program runs at once. Without a seal the times of the files decide, which is what an outsider can see too.
 """
 
+import errno
+import fcntl
 import hashlib
 import os
 import shutil
@@ -17,7 +19,7 @@ from pathlib import Path
 sys.path.insert(0, str(Path(__file__).resolve().parent.parent.parent / 'tests'))
 
 import programs
-from lib.command import FAILED, Fault, say
+from lib.command import FAILED, Fault, Unbroken, say
 
 PARTS = ('src', 'specs', 'proofs')
 LOG = 'target/log/bin-session.log'
@@ -28,6 +30,7 @@ SECONDS = {
 AT_ONCE = 1.5   # seconds in which rt says that nothing has changed, so that no line need be shown
 ONE_TIME = 30   # seconds that may lie between a program and rt's stamp of it
 PATIENCE = 5    # seconds that a process has to end in before it is killed
+MOMENT = 0.02
 TAIL = 12
 LITTLE = 1 << 16
 
@@ -127,11 +130,27 @@ def prove(program, command):
             raise Fault(f'{fault}, and {program.root} cannot be written: prove it where it can')
         say(command, 'the checkout cannot be written, so rt was not asked; the recorder is no older than its sources')
         return
+    if full(program.root):
+        raise Fault(f'{fault or "rt must be asked"}, and the disk that holds {program.root} is full')
     log = program.root / LOG
     log.parent.mkdir(parents=True, exist_ok=True)
-    with open(log, 'wb') as out:
+    with open(log, 'ab') as out:
+        alone(out)
         Proof(program, command, out).run(fault)
     seal(program)
+
+
+def full(folder):
+    return shutil.disk_usage(folder).free < LITTLE
+
+
+def alone(log):
+    """Two commands must not prove into one target; the log is theirs who hold it, and starts anew."""
+    try:
+        fcntl.flock(log, fcntl.LOCK_EX | fcntl.LOCK_NB)
+    except BlockingIOError:
+        raise Fault(f'another command is proving here; its log is {LOG}')
+    log.truncate(0)
 
 
 def seal(program):
@@ -167,26 +186,34 @@ class Proof:
 
     def check(self, at, crate):
         """Has rt check one crate; what it stands on is checked already."""
-        began = time.monotonic()
-        process = started(['rt', 'check', crate], self.program.root, self.log)
+        began, process = time.monotonic(), None
         try:
+            with Unbroken():
+                process = started(['rt', 'check', crate], self.program.root, self.log)
             status = waited(process, AT_ONCE)
             if status is None:
                 self.show(at, crate)
                 status = process.wait()
-                self.end_line(f' .. {"proved" if status == 0 else "NOT PROVED"} in {time.monotonic() - began:.0f} s\n')
+                self.end_line(f' .. {self.outcome(crate, status)} in {time.monotonic() - began:.0f} s\n')
         except BaseException:
+            if process is not None:
+                end(process)
             self.end_line('\n')
             raise
-        finally:
-            end(process)
         if status != 0:
             raise self.failed(crate, status)
+
+    def outcome(self, crate, status):
+        """rt takes its time on a busy machine, also where nothing has changed, and then says so."""
+        if status != 0:
+            return 'NOT PROVED'
+        unchanged = any(line.startswith(f'rt: {crate} proved (unchanged') for line in self.last_lines())
+        return 'found unchanged' if unchanged else 'proved'
 
     def show(self, at, crate):
         if not self.said:
             about = sum(SECONDS.get(name, 0) for name in self.crates[at - 1:])
-            say(self.command, f'{self.why}: proving, about {about} s in all on an idle machine; the prover\'s log is {LOG}')
+            say(self.command, f'{self.why}: proving, up to {about} s on an idle machine; the prover\'s log is {LOG}')
             self.said = True
         hint = f', about {SECONDS[crate]} s' if crate in SECONDS else ''
         self.write(f'{self.command}: proving {crate}, {at} of {len(self.crates)}{hint}')
@@ -202,11 +229,14 @@ class Proof:
             sys.stderr.write(text)
             sys.stderr.flush()
 
+    def last_lines(self):
+        return Path(self.log.name).read_text(errors='replace').splitlines()[-TAIL:]
+
     def failed(self, crate, status):
         """What rt said last, and where all of it stands."""
-        if shutil.disk_usage(self.program.root).free < LITTLE:
-            return Fault(f'the disk that holds {self.program.root} is full: {crate} was not proved')
-        tail = Path(self.log.name).read_text(errors='replace').splitlines()[-TAIL:]
+        tail = self.last_lines()
+        if full(self.program.root) or any(os.strerror(errno.ENOSPC) in line for line in tail):
+            return Fault(f'{crate} was not proved: the disk that holds {self.program.root} is full; the log is {LOG}')
         for line in tail:
             self.write(f'    {line[:400]}\n')
         return Fault(f'{crate} was not proved: rt ended with {status}; above are the last lines of {LOG}', FAILED)
@@ -230,19 +260,22 @@ def waited(process, seconds):
 
 
 def end(process):
-    """Ends what is left of a process and of all that it started."""
-    for number in (signal.SIGTERM, signal.SIGKILL):
-        try:
-            os.killpg(process.pid, number)
-        except (ProcessLookupError, PermissionError):
-            break
-        if waited(process, PATIENCE) is not None and not group_left(process.pid):
-            break
+    """Ends what is left of a process and of all that it started, first with a plea and then without."""
+    with Unbroken():
+        for number in (signal.SIGTERM, signal.SIGKILL):
+            deadline = time.monotonic() + PATIENCE
+            while signalled(process, number) and time.monotonic() < deadline:
+                number = 0  # asks whether one is left
+                waited(process, MOMENT)
+                time.sleep(MOMENT)
 
 
-def group_left(group):
+def signalled(process, number):
+    """Sends a signal to a process and all that it started. False where none of them is left."""
     try:
-        os.killpg(group, 0)
-    except (ProcessLookupError, PermissionError):
+        os.killpg(process.pid, number)
+    except ProcessLookupError:
         return False
+    except PermissionError:
+        return number != 0  # one runs as another user, and it ends with its parent
     return True

@@ -88,7 +88,7 @@ def phase_lines(session):
 def verdict(session):
     journal, raised = session.journal, session.raised
     if journal.impossible:
-        return journal.verdict()
+        return journal.verdict('frame')
     if journal.missing or journal.repeated:
         return journal.closing()
     if not session.plan:
