@@ -409,6 +409,10 @@ def recorders(report, scratch):
         ('a refusal that a take never gets', '14s/^00/04/', 'no take is refused with 4'), ('a second START', '11s/.*/00 01 00000002 00000000 00000002/', 'a second START'),
         ('an event that cannot be', '11s/1$/2/', 'no step leads'), ('a lost event', '11s/00000002/00000003/', 'missing before this: 2'),
         ('a refusal that is none', '2s/^00/0B/', 'no unit is refused with 11'),
+        ('a journal that is kept back', '10s/01 00000001 00000000 00000002$/00 00000000 00000000 00000000/', '2 events or more are untold'),
+        ('another plan than was opened', '10s/2$/3/', 'the calls raise START with unit 0 here'),
+        ('an event that no call raised', '11s/.*/00 06 00000002 00000001 00000001/', 'the calls raise MISSED with unit 5 here'),
+        ('an event more at the end', '14s/.*/00 06 00000005 00000006 00000001/', 'no call has raised it'),
     ):
         scratch.remake(f'{answers} | sed "{change}"')
         done = scratch.run('session')

@@ -4,14 +4,13 @@ It claims nothing that the frames and answers do not show. The phases come from 
 where a marker stands for them, or no take has told them yet, the phase is not told.
 """
 
-from collections import Counter
+from collections import Counter, deque
 
 from lib import calls, words
-from lib.calls import FIND, INTERRUPTED, NAMES, NO_FRAME, OPEN, RESULT, TABLE, TAKE, TICK, UNIT
-from lib.history import SCREENING
-from lib.journal import IMPOSSIBLE, Journal, plain_fault
+from lib.calls import FIND, INTERRUPTED, OPEN, RESULT, TABLE, TAKE, TICK, UNIT
+from lib.journal import Journal, plain_fault
 from lib.phases import Phases
-from lib.words import CHECK, DEFECT, GAP, counted, span
+from lib.words import CHECK, DEFECT, GAP, INTERRUPT, KINDS, LONG, MISSED, PHASE, SILENCE, START, counted
 
 CALL = 22
 HEAD = f'{"frame":>9}  {"call and answer":<{CALL}}  {"event":<9}  {"number":>9}  {"unit":>9}  what it says\n'
@@ -44,24 +43,54 @@ class Tally:
 
 
 class Raised:
-    """How many events were raised for certain, and whether more may have been since a take came back empty."""
+    """The events that the accepted calls raise for certain: all but PHASE and LONG follow from the calls alone."""
 
     def __init__(self):
-        self.least = 0
-        self.more = False
-        self.quiet = True  # no unit since the last tick, or since the open
+        self.least = 0         # so many events were raised, or more
+        self.more = False      # more may have been raised since a take came back empty
+        self.quiet = True      # no unit since the last tick, or since the open
+        self.silent = 0
+        self.untold = deque()  # those that were not told yet
+        self.followed = True   # no marker and no fault stands between, so the next one to be told is known
 
-    def surely(self):
+    def surely(self, kind, unit, value=None):
+        """An event; its value is None where the calls do not tell it."""
         self.least += 1
         self.more = True
+        if self.followed:
+            self.untold.append((kind, unit, value))
 
     def perhaps(self):
         self.more = True
 
-    def tick(self):
+    def tick(self, last):
+        self.silent = self.silent + 1 if self.quiet else 0
         if self.quiet:
-            self.surely()
+            self.surely(SILENCE, last, self.silent)
         self.quiet = True
+
+    def told(self, kind, unit, value):
+        """Why the calls do not raise an event that is told next, or None."""
+        if kind in (PHASE, LONG) or not self.followed:
+            return None
+        due = self.untold.popleft() if self.untold else None
+        if due and due[:2] == (kind, unit) and due[2] in (None, value):
+            return None
+        self.lose()
+        return f'the calls raise {KINDS[due[0]]} with unit {due[1]:,} here' if due else 'no call has raised it'
+
+    def lose(self):
+        """What is told next is not known any more, until a take comes back empty."""
+        self.followed = False
+        self.untold.clear()
+
+    def left(self, told):
+        """So many events are untold, or more."""
+        return max(0, self.least - told, len(self.untold))
+
+    def emptied(self, told):
+        self.lose()
+        self.least, self.more, self.followed = told, False, True
 
 
 class Session:
@@ -84,9 +113,7 @@ class Session:
         """The row of a frame and its answer; beneath it what is wrong, where something is."""
         self.calls[code] += 1
         refusal, kind, number, unit, value = answer
-        fault = calls.answer_fault(code, answer)
-        if fault is None and (refusal or not kind):
-            fault = plain_fault(*answer)
+        fault = self.answer_fault(code, answer)
         if fault is not None:
             raw = '%02X %02X %08X %08X %08X' % answer
             return self.row(at, f'{calls.asked(code, said)}: {raw}', self.journal.cannot_be(at, fault))
@@ -97,6 +124,16 @@ class Session:
             return self.entry(at, kind, number, unit, value)
         return self.row(at, HEARD[code](self, code, said, value))
 
+    def answer_fault(self, code, answer):
+        """Why the program could not answer this call so now, or None."""
+        fault = calls.answer_fault(code, answer)
+        if fault is None and (answer[0] or not answer[1]):
+            fault = plain_fault(*answer)
+        left = self.raised.left(self.journal.last)
+        if fault is None and code == TAKE and left and not any(answer):
+            fault = f'{counted(left, "event")} or more are untold'
+        return fault
+
     def row(self, at, text, fault=None):
         return f'{at:>9,}  {text}\n' + (NOTE.format(fault) if fault else '')
 
@@ -104,14 +141,20 @@ class Session:
         """A take that tells an entry."""
         before = self.journal.history.phase
         fault = self.journal.hear(at, kind, number, unit, value)
+        if fault or kind == GAP:
+            self.raised.lose()
         if kind == GAP:
             self.gap(number, number + value - 1)
         else:
+            fault = fault or self.cannot(at, self.raised.told(kind, unit, value))
             self.event(kind, number, unit)
             if fault is None:
                 self.phases.told(before, kind, unit, value)
         self.raised.least = max(self.raised.least, self.journal.last)
         return self.row(at, f'{"take":<{CALL}}  {words.entry(kind, number, unit, value)}', fault)
+
+    def cannot(self, at, why):
+        return self.journal.cannot_be(at, why) if why else None
 
     def event(self, kind, number, unit):
         self.events[kind] += 1
@@ -130,7 +173,7 @@ class Session:
 
     def opened(self, code, said, value):
         self.plan = (code, calls.plan(*said) if code == OPEN else calls.table_entry(*said))
-        self.raised.surely()
+        self.raised.surely(START, 0, said[2] if code == OPEN else None)
         return calls.asked(code, said)
 
     def unit(self, code, said, value):
@@ -139,28 +182,32 @@ class Session:
         self.tally.unit(number, value)
         self.raised.quiet = False
         if number > first:
-            self.raised.surely()
+            self.raised.surely(MISSED, first, number - first)
         return f'unit {number:,}: {words.ORDERS[value]}' + calls.skipped(first, number - 1)
 
     def result(self, code, said, value):
         self.tally.result(*said)
         if said[0]:
-            self.raised.surely()
+            self.raised.surely(DEFECT, self.tally.last)
         else:
             self.raised.perhaps()
         return calls.asked(code, said)
 
     def interrupted(self, code, said, value):
-        self.raised.surely()
+        self.raised.surely(INTERRUPT, self.tally.last, 0)
+        return calls.asked(code, said)
+
+    def found(self, code, said, value):
+        self.raised.surely(CHECK, self.tally.last, 0)
         return calls.asked(code, said)
 
     def ticked(self, code, said, value):
-        self.raised.tick()
+        self.raised.tick(self.tally.last)
         return calls.asked(code, said)
 
     def nothing(self, code, said, value):
         self.empty += 1
-        self.raised.least, self.raised.more = self.journal.last, False
+        self.raised.emptied(self.journal.last)
         self.all_told()
         return 'take: nothing to tell'
 
@@ -177,5 +224,5 @@ class Session:
 
 HEARD = {
     OPEN: Session.opened, TABLE: Session.opened, UNIT: Session.unit, RESULT: Session.result, TICK: Session.ticked,
-    INTERRUPTED: Session.interrupted, FIND: Session.interrupted, TAKE: Session.nothing,
+    INTERRUPTED: Session.interrupted, FIND: Session.found, TAKE: Session.nothing,
 }

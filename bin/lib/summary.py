@@ -1,8 +1,8 @@
 """A session in a few lines: its plan, units, events and phases, what was dropped, and one line of verdict."""
 
-from lib import phases, words
+from lib import phases
 from lib.calls import FIND, INTERRUPTED, NAMES, NO_FRAME, OPEN, RESULT, TABLE, TAKE, TICK, UNIT
-from lib.words import KINDS, counted, few, span, spans
+from lib.words import KINDS, counted, span, spans
 
 LABEL = 11
 ORDER = (OPEN, TABLE, UNIT, RESULT, INTERRUPTED, FIND, TICK, TAKE, NO_FRAME)
@@ -93,7 +93,7 @@ def verdict(session):
         return journal.closing()
     if not session.plan:
         return 'No station was opened, so no event was raised.'
-    left = max(0, raised.least - journal.last)
+    left = raised.left(journal.last)
     if not journal.last:
         return f'Nothing was taken: {counted(left, "event")} or more are untold. Take (07) until nothing is told.'
     return f'{taken(session, bool(left or raised.more or not session.empty))}{behind(session, left)}'
