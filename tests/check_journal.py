@@ -65,7 +65,8 @@ OUT_OF_PLACE = [
     (0, 10, 2, 0, 0), (0, 2, 2, 1, 4), (0, 4, 2, 1, 2), (0, 1, 0, 0, 1), (0, 6, 8_000_001, 0, 1), (0, 9, 2, 1, 1),
     (0, 9, 2, 0, 0), (0, 9, 2, 0, 2 ** 32 - 1), (0, 9, 2, 0, 7_999_992), (0, 5, 2, 1, 0), (0, 5, 2, 1_000_000, 1),
     (0, 5, 2, 0, 1), (0, 6, 2, 0, 0), (0, 7, 2, 0, 0), (0, 7, 2, 1, 1), (0, 8, 2, 0, 1), (0, 2, 2, 0, 1), (0, 4, 2, 0, 0),
-    (0, 6, 2, 1_000_001, 1), (0, 1, 2, 0, 2), (11, 0, 0, 0, 0), (4, 0, 0, 0, 1), (4, 1, 1, 0, 1), (0, 0, 1, 0, 0), (0, 0, 0, 0, 2),
+    (0, 6, 2, 1_000_001, 1), (0, 1, 2, 0, 2), (11, 0, 0, 0, 0), (4, 0, 0, 0, 1), (4, 1, 1, 0, 1), (0, 0, 1, 0, 0),
+    (0, 0, 0, 0, 2),
 ]
 # The entries (kind, unit, value) from event 1 on; the last two are one that a station can write there, and one that
 # none can, with a part of what is said of it.
@@ -112,7 +113,8 @@ HISTORIES = {
     'LONG once and then none':
         ((OPEN, (DEFECT, 5, 0), (LONG, 5, 5), (DEFECT, 6, 0)), (LONG, 6, 6), (SILENCE, 6, 1), 'calls for LONG'),
     'LONG where a later defect had none':
-        ((OPEN, (DEFECT, 5, 0), (DEFECT, 7, 0), (INTERRUPT, 7, 0), (DEFECT, 12, 0)), (DEFECT, 13, 0), (LONG, 12, 5), 'raised none'),
+        ((OPEN, (DEFECT, 5, 0), (DEFECT, 7, 0), (INTERRUPT, 7, 0), (DEFECT, 12, 0)), (DEFECT, 13, 0), (LONG, 12, 5),
+         'raised none'),
     'CHECK in sampling': (SAMPLING, (INTERRUPT, 9, 0), (CHECK, 9, 0), 'the phase is sampling'),
     'CHECK with nothing to recall': ((OPEN, (CHECK, 1, 0)), (CHECK, 2, 0), (CHECK, 1, 0), 'left to recall'),
     'CHECK of a defective unit': ((OPEN, (DEFECT, 1, 0)), (CHECK, 2, 0), (CHECK, 1, 0), 'left to recall'),
@@ -121,7 +123,9 @@ HISTORIES = {
     'a silence over a unit': ((OPEN, (SILENCE, 3, 1)), (SILENCE, 4, 1), (SILENCE, 4, 2), 'is 1 here'),
 }
 # What a marker may hide is possible again: the entry that no station could write, behind a marker.
-HIDDEN = ('a step of two levels', 'screening with no cause', 'LONG with no DEFECT', 'a silence that starts at two', 'CHECK in sampling')
+HIDDEN = (
+    'a step of two levels', 'screening with no cause', 'LONG with no DEFECT', 'a silence that starts at two', 'CHECK in sampling',
+)
 
 
 def check(report, pair, options):
@@ -136,8 +140,9 @@ def check(report, pair, options):
     whole_sessions(report)
     files(report)
     heard, caught, tried = random_journals(report, options)
-    return (f'every kind, {len(DAMAGED)} damaged lines, {len(closings())} closing lines, every stored session, {len(HISTORIES)} histories '
-            f'that no station could write, {heard:,} events of random sessions; of {tried:,} changed journals {caught:,} caught')
+    return (f'every kind, {len(DAMAGED)} damaged lines, {len(closings())} closing lines, every stored session, '
+            f'{len(HISTORIES)} histories that no station could write, {heard:,} events of random sessions; '
+            f'of {tried:,} changed journals {caught:,} caught')
 
 
 def closings():
@@ -152,7 +157,8 @@ def closings():
         ('a lost start', told(2, 3), 'Events 1 to 3: missing: 1; this file cannot tell what came after 3.', 1),
         ('a repeated line', told(1, 2, 2, 3),
          'Events 1 to 3: all accounted for; out of order: 2; this file cannot tell what came after 3.', 1),
-        ('a swapped pair', told(1, 3, 2, 4), 'Events 1 to 4: missing: 2; out of order: 2; this file cannot tell what came after 4.', 1),
+        ('a swapped pair', told(1, 3, 2, 4),
+         'Events 1 to 4: missing: 2; out of order: 2; this file cannot tell what came after 4.', 1),
         ('a late marker', lines((0, 9, 2, 0, 3)),
          'Events 1 to 4: missing: 1; only named by a marker: 2 to 4; this file cannot tell what came after 4.', 1),
         ('two sessions', told(1, 2, 1, 2), 'No station could write this journal: 1 line cannot be (line 3).', 1),
@@ -192,9 +198,10 @@ def closes(report, name, text, closing, status):
 def damaged(report):
     """Each damaged line alone between two good ones is named, and the good ones are still read."""
     for line in DAMAGED:
-        done = journal(told(1) + line + (told(2) if line.endswith(b'\n') else b''))
+        whole = line.endswith(b'\n')
+        done = journal(told(1) + line + (told(2) if whole else b''))
         named = done.stderr.decode().startswith('bin/journal: line 2 is no answer line: ') and done.stderr.count(b'\n') == 1
-        read = done.stdout.count(b'START') == 1 and done.stdout.count(b'SILENCE') == line.endswith(b'\n') and b'all accounted for' in done.stdout
+        read = (done.stdout.count(b'START'), done.stdout.count(b'SILENCE')) == (1, whole) and b'all accounted for' in done.stdout
         report.check(named and read and done.returncode == 1, f'bin/journal on the damaged line {line[:60]!r}: {done.stderr!r}')
 
 
@@ -220,9 +227,10 @@ def out_of_place(report):
     rows = done.stdout.decode().splitlines()
     for at, answer in enumerate(answers, 2):
         under = [note for row, note in zip(rows, rows[1:]) if row.startswith(f'{at:>9,}  ')]
-        report.check(under and under[0].startswith('           ! no station could write this: '), f'bin/journal takes {answer}: {under}')
+        noted = under and under[0].startswith('           ! no station could write this: ')
+        report.check(noted, f'bin/journal takes {answer}: {under}')
     closed = rows[-1].startswith(f'No station could write this journal: {len(answers)} lines cannot be (line 2, 3, ')
-    report.check(closed and done.returncode == 1, f'bin/journal on lines out of place ends with {done.returncode} and: {rows[-1]}')
+    report.check(closed and done.returncode == 1, f'bin/journal on lines out of place: {done.returncode}: {rows[-1]}')
 
 
 def numbered(entries, first=1):
@@ -251,7 +259,8 @@ def histories(report):
     done = journal(lines(*numbered((*SAMPLING, (DEFECT, 9, 0), (SILENCE, 9, 1)))))
     note = b'           ! no station could write this: the phase is sampling level 0\n'
     closed = done.stdout.endswith(b'No station could write this journal: 1 line cannot be (line 3).\n')
-    report.check(note in done.stdout and closed and done.returncode == 1, f'bin/journal on a wrong DEFECT:\n{done.stdout.decode()}')
+    said = note in done.stdout and closed and done.returncode == 1
+    report.check(said, f'bin/journal on a wrong DEFECT:\n{done.stdout.decode()}')
 
 
 # ---- What stations do write

@@ -84,7 +84,8 @@ class Help(argparse.Action):
 
 def parser(name, text):
     """A reader of options; the command's own text is its description."""
-    made = argparse.ArgumentParser(prog=name, description=text, add_help=False, formatter_class=argparse.RawDescriptionHelpFormatter)
+    as_written = argparse.RawDescriptionHelpFormatter
+    made = argparse.ArgumentParser(prog=name, description=text, add_help=False, formatter_class=as_written)
     made.add_argument('-h', '--help', action=Help, nargs=0, help='print this and end')
     return made
 

@@ -184,7 +184,8 @@ class History:
             return
         least = LEAST_BLOCK[value] * (self.clearance - 1) + 1
         if unit - self.level_from < least:
-            raise Impossible(f'{counted(self.clearance, "good sample")} after unit {self.level_from:,} take at least {counted(least, "unit")}')
+            samples, units = counted(self.clearance, 'good sample'), counted(least, 'unit')
+            raise Impossible(f'{samples} after unit {self.level_from:,} take at least {units}')
 
     def long_screening(self, number, unit, value):
         if self.caused is None:

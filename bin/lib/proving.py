@@ -247,7 +247,8 @@ class Proof:
 def started(words, folder, log):
     """A process in a group of its own, so that all that it starts can be ended with it."""
     try:
-        return subprocess.Popen(words, cwd=folder, stdin=subprocess.DEVNULL, stdout=log, stderr=subprocess.STDOUT, start_new_session=True)
+        streams = {'stdin': subprocess.DEVNULL, 'stdout': log, 'stderr': subprocess.STDOUT}
+        return subprocess.Popen(words, cwd=folder, start_new_session=True, **streams)
     except OSError as why:
         raise Fault(f'cannot start {words[0]}: {why.strerror}')
 

@@ -105,8 +105,9 @@ def taken(session, open_end):
         return f'{"The one event" if last == 1 else f"Every event from 1 to {last:,}"} was taken and none is missing.'
     if not gaps:
         return f'{"Event" if last == 1 else "Events"} {span(1, last)}: taken, and none is missing.'
-    one = len(gaps) == 1 and gaps[0][0] == gaps[0][1]
-    said = f'{"Event" if one else "Events"} {spans(gaps)} {"was" if one else "were"} dropped, and {"the marker says" if len(gaps) == 1 else "markers say"} so'
+    by = 'the marker says' if len(gaps) == 1 else 'markers say'
+    were = f'Event {gaps[0][0]:,} was' if gaps[0][0] == gaps[-1][1] else f'Events {spans(gaps)} were'
+    said = f'{were} dropped, and {by} so'
     rest = others(gaps, last)
     return f'{said}; {spans(rest)} {"was" if rest[0][0] == rest[-1][1] else "were"} taken.' if rest else f'{said}.'
 
