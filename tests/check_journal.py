@@ -72,6 +72,7 @@ OUT_OF_PLACE = [
 # none can, with a part of what is said of it.
 OPEN = (START, 0, 5)
 SAMPLING = (OPEN, (PHASE, 5, 1))
+HIDDEN = ((MARKER, 0, 8),)
 HISTORIES = {
     'a first event that is not START': ((), OPEN, (SILENCE, 0, 1), 'event 1 is START'),
     'START with a unit': ((), OPEN, (START, 1, 5), 'unit 0'),
@@ -120,10 +121,19 @@ HISTORIES = {
     'CHECK of a defective unit': ((OPEN, (DEFECT, 1, 0)), (CHECK, 2, 0), (CHECK, 1, 0), 'left to recall'),
     'a silence that starts at two': ((OPEN,), (SILENCE, 3, 1), (SILENCE, 3, 2), 'is 1 here'),
     'a silence that stands still': ((OPEN, (SILENCE, 3, 1)), (SILENCE, 3, 2), (SILENCE, 3, 1), 'is 2 here'),
+    'a unit that was passed over by a jump': ((OPEN, (MISSED, 2, 3)), (SILENCE, 5, 1), (SILENCE, 4, 1), 'backwards'),
+    'a unit above the limit': (HIDDEN, (SILENCE, 1_000_000, 1), (SILENCE, 1_000_001, 1), 'end at 1,000,000'),
+    'a jump above the limit': (HIDDEN, (MISSED, 999_999, 1), (MISSED, 1_000_000, 1), 'above 1,000,000'),
+    'a phase with no unit': (HIDDEN, (PHASE, 1, 0), (PHASE, 0, 0), 'before a unit has come'),
+    'a check find with no unit': (HIDDEN, (CHECK, 1, 0), (CHECK, 0, 0), 'no unit was screened'),
+    'a defect that is neither screened nor sampled': (HIDDEN, (DEFECT, 5, 1), (DEFECT, 5, 2), '0 or 1'),
+    'a sample after PHASE to screening': ((*HIDDEN, (PHASE, 9, 0)), (DEFECT, 10, 0), (DEFECT, 10, 1), 'the phase is screening'),
+    'LONG with more units than have come': (HIDDEN, (LONG, 5, 5), (LONG, 5, 6), 'more than have come'),
+    'more ticks than events': (HIDDEN, (SILENCE, 3, 8), (SILENCE, 3, 9), 'fits its number'),
     'a silence over a unit': ((OPEN, (SILENCE, 3, 1)), (SILENCE, 4, 1), (SILENCE, 4, 2), 'is 1 here'),
 }
 # What a marker may hide is possible again: the entry that no station could write, behind a marker.
-HIDDEN = (
+MADE_POSSIBLE = (
     'a step of two levels', 'screening with no cause', 'LONG with no DEFECT', 'a silence that starts at two', 'CHECK in sampling',
 )
 
@@ -233,8 +243,13 @@ def out_of_place(report):
     report.check(closed and done.returncode == 1, f'bin/journal on lines out of place: {done.returncode}: {rows[-1]}')
 
 
-def numbered(entries, first=1):
-    return [(0, kind, number, unit, value) for number, (kind, unit, value) in enumerate(entries, first)]
+def numbered(entries):
+    """The entries as answers, numbered from 1 on; a marker takes as many numbers as it names."""
+    answers, number = [], 1
+    for kind, unit, value in entries:
+        answers.append((0, kind, number, unit, value))
+        number += value if kind == MARKER else 1
+    return answers
 
 
 def faults(answers):
@@ -252,10 +267,12 @@ def histories(report):
         report.check(not faults(numbered((*before, good))), f'bin/journal does not take what a station can write beside: {name}')
         said = faults(numbered((*before, bad)))
         report.check(list(said) == [len(before) + 1] and why in said[len(before) + 1], f'bin/journal says of {name}: {said}')
-    for name in HIDDEN:
+    for name in MADE_POSSIBLE:
         before, _, bad, _ = HISTORIES[name]
-        hidden = [*numbered(before), (0, MARKER, len(before) + 1, 0, 4), *numbered([bad], len(before) + 5)]
-        report.check(not faults(hidden), f'bin/journal forgets that a marker may hide what makes it possible: {name}')
+        said = faults(numbered((*before, *HIDDEN, bad)))
+        report.check(not said, f'bin/journal forgets that a marker may hide what makes it possible: {name}: {said}')
+    said = faults(numbered((OPEN, (SILENCE, 4, 1), (INTERRUPT, 2, 0), (SILENCE, 3, 1))))
+    report.check(list(said) == [3], f'bin/journal says one fault more than once: {said}')
     done = journal(lines(*numbered((*SAMPLING, (DEFECT, 9, 0), (SILENCE, 9, 1)))))
     note = b'           ! no station could write this: the phase is sampling level 0\n'
     closed = done.stdout.endswith(b'No station could write this journal: 1 line cannot be (line 3).\n')

@@ -220,8 +220,6 @@ class History:
     def missed(self, number, unit, value):
         demand(unit > 0 and value > 0, 'MISSED names one unit or more, from 1 on')
         demand(unit + value <= MOST_UNITS, f'the unit after those missed is above {MOST_UNITS:,}')
-        if unit <= self.last:
-            raise Impossible(f'units run backwards: unit {self.last:,} came before')
         self.at(unit - 1, settles=True, handled=False)
         self.restart(unit + value, unit + value - 1, 'MISSED')
 
