@@ -28,6 +28,7 @@ from lib import words as in_words
 from lib.session import Session
 
 COMMANDS = ('session', 'journal', 'run')
+NOT_PASSED_ON = ('RECORDER_ROOT', 'SECOND_ROOT', 'PYTHONUNBUFFERED')  # each would change what is tried
 PROVING = r'''bin/session: target/bin/recorder is not built yet: .* the prover's log is target/log/bin-session\.log
 bin/session: proving base, 1 of 2 \.\. proved in \d+ s
 bin/session: proving recorder, 2 of 2, about 30 s \.\. proved in \d+ s
@@ -293,7 +294,7 @@ class Scratch:
         shutil.rmtree(self.root / 'target', ignore_errors=True)
 
     def environment(self, **more):
-        known = {name: value for name, value in os.environ.items() if name not in ('RECORDER_ROOT', 'SECOND_ROOT')}
+        known = {name: value for name, value in os.environ.items() if name not in NOT_PASSED_ON}
         return {**known, 'PATH': f'{self.kit / "path"}:{os.environ["PATH"]}', **more}
 
     def run(self, name, *options, **more):
@@ -485,22 +486,27 @@ def outputs(report, scratch):
     """A full disk and a closed output are said in one line; a reader that went away ends it without a word."""
     long = scratch.root / 'long.out'
     long.write_bytes(model.written((0, 0, 0, 0, 1)) * 20_000)
-    ways = {'session': (), 'journal': (long,), 'run': ('--help',)}
-    for name, options in ways.items():
-        for option in (options, ('--help',)):
+    for name, options in {'session': (), 'journal': (long,), 'run': ('--help',)}.items():
+        # a write fails at once, or when what was kept is written in the end
+        for option, unbuffered in ((options, ''), (options, '1'), (('--help',), '')):
+            environment = scratch.environment(PYTHONUNBUFFERED=unbuffered)
             with open('/dev/full', 'wb') as full:
-                done = scratch.run(name, *option, capture_output=False, stdout=full, stderr=subprocess.PIPE)
+                done = scratch.run(name, *option, capture_output=False, stdout=full, stderr=subprocess.PIPE, env=environment)
             said = f'bin/{name}: cannot write the output: No space left on device\n'.encode()
             report.check((done.returncode, done.stderr) == (2, said), f'bin/{name} {option} on a full disk: {done.stderr!r}')
-        done = scratch.run(name, *options, capture_output=False, stderr=subprocess.PIPE, preexec_fn=lambda: os.close(1))
-        said = done.returncode == 2 and b'output is closed' in done.stderr
-        report.check(said, f'bin/{name} with a closed output: {done.returncode}: {done.stderr!r}')
-        reading, writing = os.pipe()
-        os.close(reading)
-        done = scratch.run(name, *options, capture_output=False, stdout=writing, stderr=subprocess.PIPE)
-        os.close(writing)
-        quiet = done.returncode == -signal.SIGPIPE and not done.stderr
-        report.check(quiet, f'bin/{name} with no reader: {done.returncode}: {done.stderr!r}')
+        closed_outputs(report, scratch, name, options)
+
+
+def closed_outputs(report, scratch, name, options):
+    done = scratch.run(name, *options, capture_output=False, stderr=subprocess.PIPE, preexec_fn=lambda: os.close(1))
+    said = done.returncode == 2 and b'output is closed' in done.stderr
+    report.check(said, f'bin/{name} with a closed output: {done.returncode}: {done.stderr!r}')
+    reading, writing = os.pipe()
+    os.close(reading)
+    done = scratch.run(name, *options, capture_output=False, stdout=writing, stderr=subprocess.PIPE)
+    os.close(writing)
+    quiet = done.returncode == -signal.SIGPIPE and not done.stderr
+    report.check(quiet, f'bin/{name} with no reader: {done.returncode}: {done.stderr!r}')
 
 
 def read_only(report, scratch):
