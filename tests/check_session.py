@@ -176,7 +176,7 @@ class Witness(Driver):
 def random_sessions(report, options):
     """The tallies are the model's, a phase that is told is right, and a session that was taken to its end tells all."""
     count = max(20, options.count // 15)
-    told = 0
+    told = caught = 0
     for at in range(count):
         witness = Witness(f'{options.seed}-session-{at}')
         witness.near_the_limit = lambda: None  # a million missed units make a slow witness
@@ -184,8 +184,22 @@ def random_sessions(report, options):
         session, said = heard_of(text, witness.expected_for(text))
         report.check(session.journal.sound(), f'bin/session calls random session {at} impossible: {said.splitlines()[-1]}')
         told += against_model(report, at, witness, session, said.splitlines()[-1])
+        caught += one_wrong_answer(report, at, witness, text)
     report.check(told > 0, 'no random session told every phase')
+    report.check(caught > count * 2 // 3, f'of {count} sessions with one wrong answer {caught} are caught')
     return count
+
+
+def one_wrong_answer(report, at, witness, text):
+    """A session with one answer changed is still told to its end; whether the change was found."""
+    answers = list(witness.answers)
+    chosen = witness.random
+    place, word = chosen.randrange(len(answers)), chosen.randrange(5)
+    change = chosen.choice((0, 1, 2, 3, 4, 5, 6, 7, 8, 9, 10, 11, 2 ** 8 - 1 if word < 2 else 2 ** 32 - 1))
+    answers[place] = (*answers[place][:word], change, *answers[place][word + 1:])
+    session, said = heard_of(b''.join(line + b'\n' for line in witness.lines), b''.join(map(model.written, answers)))
+    report.check(said.splitlines()[-1].endswith('.'), f'random session {at} with a wrong answer has no verdict')
+    return answers[place] != witness.answers[place] and not session.journal.sound()
 
 
 def against_model(report, at, witness, session, verdict):
@@ -433,6 +447,11 @@ def recorders(report, scratch):
         ('a journal that is kept back', f'10s/.*/{line}/', '2 events or more are untold'),
         ('another plan than was opened', '10s/2$/3/', 'the calls raise START with unit 0 here'),
         ('an event that no call raised', '11s/.*/00 06 00000002 00000001 00000001/', 'the calls raise MISSED with unit 5 here'),
+        ('an event of a kind that is none', '10s/^00 01/00 0A/', 'there is no kind 10'),
+        ('a marker that names nothing', '10s/.*/00 09 00000001 00000000 00000000/', 'names one number or more'),
+        ('a unit that has not come', '13s/00000006/00000007/', 'calls for unit 6'),
+        ('an order that is due no more', '14s/.*/09 00 00000000 00000000 00000000/', 'no take is refused with 9'),
+        ('a refusal that is not due', '4s/.*/04 00 00000000 00000000 00000000/', 'no refusal is due here'),
         ('an event more at the end', '14s/.*/00 06 00000005 00000006 00000001/', 'no call has raised it'),
     ):
         scratch.remake(f'{answers} | sed "{change}"')

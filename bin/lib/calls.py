@@ -8,6 +8,7 @@ OPEN, UNIT, RESULT, INTERRUPTED, FIND, TICK, TAKE, TABLE = range(1, 9)
 NO_FRAME = 0
 FRAME = re.compile(rb'[0-9A-F]{2}(?: [0-9A-F]{8})*')
 LONGEST_LINE = 80
+MOST_UNITS = 1_000_000
 WORDS = {OPEN: (7,), UNIT: (1,), RESULT: (1,), INTERRUPTED: (0,), FIND: (0,), TICK: (0,), TAKE: (0,), TABLE: (4, 5)}
 NAMES = {
     NO_FRAME: 'ill-formed', OPEN: 'open', UNIT: 'unit', RESULT: 'result', INTERRUPTED: 'interrupt', FIND: 'check find',
@@ -75,6 +76,12 @@ def table_entry(type, letter, aql, N, seed=0):
     percent += '0' if percent.endswith('.') else ''
     period = f' N {N:,}' if N else ''
     return f'{TYPES.get(type, f"type {type:,}")} letter {name} AQL {percent}{period} seed 0x{seed:X}'
+
+
+def unit_limit(code, words):
+    """The last unit number of an opened plan: the period under CSP-F."""
+    period = words[5] if code == OPEN else words[3]
+    return period if TYPES.get(words[0]) == 'CSP-F' else MOST_UNITS
 
 
 def result_asked(value):

@@ -5,10 +5,10 @@ neither the plan's type nor n nor S; it draws on what the entries tell and on no
 may hide it forgets, so that it never calls impossible what a station can write.
 """
 
+from lib.calls import MOST_UNITS
 from lib.words import CHECK, DEFECT, INTERRUPT, KINDS, LONG, MISSED, PHASE, PHASES, SILENCE, START, counted
 
 MOST_EVENTS = 8_000_000
-MOST_UNITS = 1_000_000
 MOST_CLEARANCE = 10_000
 LEAST_ROOM = 8
 SCREENING, SAMPLING = 0, 1

@@ -47,7 +47,7 @@ class Phases:
             if parts and parts[-1][2] == label:
                 first = parts.pop()[0]
             parts.append((first, after - 1, label))
-        return [part for part in parts if part[0] <= last]
+        return parts
 
 
 def own_phase(kind, value):

@@ -7,12 +7,13 @@ where a marker stands for them, or no take has told them yet, the phase is not t
 from collections import Counter, deque
 
 from lib import calls, words
-from lib.calls import FIND, INTERRUPTED, OPEN, RESULT, TABLE, TAKE, TICK, UNIT
+from lib.calls import FIND, INTERRUPTED, NO_FRAME, OPEN, RESULT, TABLE, TAKE, TICK, UNIT
 from lib.journal import Journal, plain_fault
 from lib.phases import Phases
 from lib.words import CHECK, DEFECT, GAP, INTERRUPT, KINDS, LONG, MISSED, PHASE, SILENCE, START, counted
 
 CALL = 22
+NUMBERS_END = 10  # a refusal that no call asks for: it comes when the event numbers run out
 HEAD = f'{"frame":>9}  {"call and answer":<{CALL}}  {"event":<9}  {"number":>9}  {"unit":>9}  what it says\n'
 NOTE = f'{"":>9}  ! {{}}\n'
 
@@ -100,6 +101,7 @@ class Session:
         self.raised = Raised()
         self.phases = Phases()
         self.plan = None
+        self.limit = 0
         self.calls = Counter()
         self.refusals = Counter()
         self.events = Counter()
@@ -113,7 +115,7 @@ class Session:
         """The row of a frame and its answer; beneath it what is wrong, where something is."""
         self.calls[code] += 1
         refusal, kind, number, unit, value = answer
-        fault = self.answer_fault(code, answer)
+        fault = self.answer_fault(code, said, answer)
         if fault is not None:
             raw = '%02X %02X %08X %08X %08X' % answer
             return self.row(at, f'{calls.asked(code, said)}: {raw}', self.journal.cannot_be(at, fault))
@@ -124,15 +126,34 @@ class Session:
             return self.entry(at, kind, number, unit, value)
         return self.row(at, HEARD[code](self, code, said, value))
 
-    def answer_fault(self, code, answer):
+    def answer_fault(self, code, said, answer):
         """Why the program could not answer this call so now, or None."""
-        fault = calls.answer_fault(code, answer)
-        if fault is None and (answer[0] or not answer[1]):
-            fault = plain_fault(*answer)
+        fault = calls.answer_fault(code, answer) or (plain_fault(*answer) if answer[0] or not answer[1] else None)
+        if fault is not None:
+            return fault
+        due = self.due(code, said)
+        if due is not None and answer[0] not in (due, NUMBERS_END):
+            return f'refusal {due} is due here: {words.REFUSALS[due]}' if due else 'no refusal is due here'
         left = self.raised.left(self.journal.last)
-        if fault is None and code == TAKE and left and not any(answer):
-            fault = f'{counted(left, "event")} or more are untold'
-        return fault
+        if code == TAKE and left and not any(answer):
+            return f'{counted(left, "event")} or more are untold'
+        return None
+
+    def due(self, code, said):
+        """The refusal that the calls so far ask for, 0 where they ask for none, and None where they do not tell."""
+        if code == NO_FRAME:
+            return 9
+        if code in (OPEN, TABLE):
+            return 9 if self.plan else None
+        if not self.plan:
+            return 2
+        if code == RESULT:
+            return 9 if said[0] > 1 else 0 if self.tally.owed else 5
+        if self.tally.owed and code in (UNIT, INTERRUPTED, FIND):
+            return 4
+        if code == UNIT:
+            return 6 if said[0] <= self.tally.last else 7 if said[0] > self.limit else 0
+        return None if code == FIND else 0
 
     def row(self, at, text, fault=None):
         return f'{at:>9,}  {text}\n' + (NOTE.format(fault) if fault else '')
@@ -143,17 +164,20 @@ class Session:
         fault = self.journal.hear(at, kind, number, unit, value)
         if fault or kind == GAP:
             self.raised.lose()
-        if kind == GAP:
+        if fault is None and kind == GAP:
             self.gap(number, number + value - 1)
-        else:
-            fault = fault or self.cannot(at, self.raised.told(kind, unit, value))
+        elif fault is None:
             self.event(kind, number, unit)
-            if fault is None:
-                self.phases.told(before, kind, unit, value)
+            self.phases.told(before, kind, min(unit, self.tally.last), value)
+            fault = self.not_raised(at, kind, unit, value)
         self.raised.least = max(self.raised.least, self.journal.last)
         return self.row(at, f'{"take":<{CALL}}  {words.entry(kind, number, unit, value)}', fault)
 
-    def cannot(self, at, why):
+    def not_raised(self, at, kind, unit, value):
+        """Whether the calls raise an event that a station could write; what is wrong, or None."""
+        why = self.raised.told(kind, unit, value)
+        if unit > self.tally.last:
+            why = 'no such unit has come'
         return self.journal.cannot_be(at, why) if why else None
 
     def event(self, kind, number, unit):
@@ -173,6 +197,7 @@ class Session:
 
     def opened(self, code, said, value):
         self.plan = (code, calls.plan(*said) if code == OPEN else calls.table_entry(*said))
+        self.limit = calls.unit_limit(code, said)
         self.raised.surely(START, 0, said[2] if code == OPEN else None)
         return calls.asked(code, said)
 
