@@ -6,7 +6,7 @@ from lib.words import CHECK, DEFECT, LONG, MISSED, PHASE, PHASES, span
 NOT_SEEN = 'missed'
 NOT_TOLD = 'not told'
 SIGNS = {**dict(zip(PHASES, '#012')), NOT_SEEN: '.', NOT_TOLD: '?'}
-KEY = '# screening, 0 1 2 sampling level, . missed, ? not told'
+KEY = '# screening, 0 1 2 sampling level, . a missed stretch, ? not told'
 WIDTH = 100
 MOST_ROWS = 24
 
@@ -80,23 +80,24 @@ def rows(parts):
     return [f'{units:<{width}}  {label}' for units, label in shown] + ([f'and {more:,} more stretches'] if more > 0 else [])
 
 
-def strip(parts, last):
-    """One character for each few units, which shows what most of them were."""
-    each = -(-last // WIDTH)
-    signs, at = '', 0
-    for first in range(1, last + 1, each):
-        end = min(first + each - 1, last)
-        while parts[at][1] < first:
-            at += 1
-        signs += SIGNS[most(parts, at, first, end)]
-    return signs, each
+def strip(parts):
+    """One sign for each few units, which shows what most of them were; a missed stretch of any length counts as one.
+
+    Answers the signs, and how many units each stands for. A jump over many units would else leave nothing to be seen.
+    """
+    sizes = [1 if label == NOT_SEEN else last - first + 1 for first, last, label in parts]
+    each = -(-sum(sizes) // WIDTH)
+    signs, counts, room = '', {}, each
+    for size, (_, _, label) in zip(sizes, parts):
+        while size:
+            taken = min(size, room)
+            counts[label] = counts.get(label, 0) + taken
+            size, room = size - taken, room - taken
+            if not room:
+                signs, counts, room = signs + most(counts), {}, each
+    return signs + (most(counts) if counts else ''), each
 
 
-def most(parts, at, first, end):
-    """What most of the units from first to end were; of equals, the earliest."""
-    counts = {}
-    while at < len(parts) and parts[at][0] <= end:
-        start, last, label = parts[at]
-        counts[label] = counts.get(label, 0) + min(last, end) - max(start, first) + 1
-        at += 1
-    return max(counts, key=counts.get)
+def most(counts):
+    """The sign of what most units were; of equals, of the earliest."""
+    return SIGNS[max(counts, key=counts.get)]

@@ -1,16 +1,20 @@
 """A session in a few lines: its plan, units, events and phases, what was dropped, and one line of verdict."""
 
+import textwrap
+
 from lib import phases
 from lib.calls import FIND, INTERRUPTED, NAMES, NO_FRAME, OPEN, RESULT, TABLE, TAKE, TICK, UNIT
 from lib.words import KINDS, counted, span, spans
 
 LABEL = 11
+WIDTH = 100
+FEW_GAPS = 2
 ORDER = (OPEN, TABLE, UNIT, RESULT, INTERRUPTED, FIND, TICK, TAKE, NO_FRAME)
 
 
 def lines(session):
     """The summary, line for line; the verdict is the last."""
-    parts = [('plan', [plan(session)]), ('frames', [frames(session)])]
+    parts = [('plan', [plan(session)]), ('frames', frames(session))]
     if session.plan:
         parts += [('units', [units(session.tally)]), ('events', [events(session)])]
         parts += [('dropped', dropped(session))] if session.gaps else []
@@ -36,7 +40,8 @@ def frames(session):
     by_call = ', '.join(f'{NAMES[code]} {session.calls[code]:,}' for code in ORDER if session.calls[code])
     count = sum(session.refusals.values())
     by_number = ', '.join(f'{times:,} with {number}' for number, times in sorted(session.refusals.items()))
-    return f'{sum(session.calls.values()):,}: {by_call}; ' + (f'{count:,} refused: {by_number}' if count else 'none refused')
+    told = textwrap.wrap(f'{sum(session.calls.values()):,}: {by_call}', WIDTH)
+    return [*told, f'{count:,} refused: {by_number}'] if count else [*told[:-1], f'{told[-1]}; none refused']
 
 
 def units(tally):
@@ -76,10 +81,9 @@ def event(told):
 
 def phase_lines(session):
     """The stretches in words, and the same as a strip to look at."""
-    last = session.tally.last
     parts = session.stretches()
-    signs, each = phases.strip(parts, last)
-    scale = 'one sign a unit' if each == 1 else f'one sign for {each:,} units, as most of them were'
+    signs, each = phases.strip(parts)
+    scale = 'one sign a unit' if each == 1 else f'one sign for {each:,} units'
     return [*phases.rows(parts), f'[{signs}]', f'{scale}: {phases.KEY}']
 
 
@@ -105,11 +109,19 @@ def taken(session, open_end):
         return f'{"The one event" if last == 1 else f"Every event from 1 to {last:,}"} was taken and none is missing.'
     if not gaps:
         return f'{"Event" if last == 1 else "Events"} {span(1, last)}: taken, and none is missing.'
+    if len(gaps) > FEW_GAPS:
+        return many_dropped(last, gaps)
     by = 'the marker says' if len(gaps) == 1 else 'markers say'
     were = f'Event {gaps[0][0]:,} was' if gaps[0][0] == gaps[-1][1] else f'Events {spans(gaps)} were'
     said = f'{were} dropped, and {by} so'
     rest = others(gaps, last)
     return f'{said}; {spans(rest)} {"was" if rest[0][0] == rest[-1][1] else "were"} taken.' if rest else f'{said}.'
+
+
+def many_dropped(last, gaps):
+    count = sum(end - first + 1 for first, end in gaps)
+    stretches = f'{len(gaps):,} stretches'
+    return f'Of events 1 to {last:,}, {count:,} were dropped, in {stretches}, and markers say so; {last - count:,} were taken.'
 
 
 def others(gaps, last):
