@@ -14,8 +14,7 @@ from lib.words import CHECK, DEFECT, GAP, INTERRUPT, KINDS, LONG, MISSED, PHASE,
 
 CALL = 22
 NUMBERS_END = 10  # a refusal that no call asks for: it comes when the event numbers run out
-HEAD = f'{"frame":>9}  {"call and answer":<{CALL}}  {"event":<9}  {"number":>9}  {"unit":>9}  what it says\n'
-NOTE = f'{"":>9}  ! {{}}\n'
+HEAD = f'{"frame":>9}  {"call and answer":<{CALL}}  {words.COLUMNS}'
 
 
 class Tally:
@@ -156,7 +155,7 @@ class Session:
         return None if code == FIND else 0
 
     def row(self, at, text, fault=None):
-        return f'{at:>9,}  {text}\n' + (NOTE.format(fault) if fault else '')
+        return f'{at:>9,}  {text}\n' + (words.NOTE.format(fault) if fault else '')
 
     def entry(self, at, kind, number, unit, value):
         """A take that tells an entry."""

@@ -37,6 +37,8 @@ PHASES = ('screening', 'sampling level 0', 'sampling level 1', 'sampling level 2
 PLACES = ('in screening', 'in sampling')
 ORDERS = ('pass', 'inspect')
 NO_UNIT = ' ' * 9
+COLUMNS = f'{"event":<9}  {"number":>9}  {"unit":>9}  what it says\n'
+NOTE = f'{"":>9}  ! {{}}\n'  # beneath a row: what is wrong with it
 SHOWN = 5
 LONGEST_QUOTE = 50
 
@@ -81,10 +83,12 @@ SAYING = {
     CHECK: lambda unit, value: without_value('a defect found in a screened unit', value),
     INTERRUPT: lambda unit, value: without_value('screening starts anew', value),
 }
+
+
 def entry(kind, number, unit, value):
     """The columns of an event or of a marker: its name, its number, its unit, and what it says."""
     if kind == GAP:
-        said = f'{counted(value, "event")} dropped: {span(number, number + value - 1)}'
+        said = f'{counted(value, "event")} dropped: {span(number, number + value - 1)}' if value else 'value 0'
     elif kind in SAYING:
         said = SAYING[kind](unit, value)
     else:
