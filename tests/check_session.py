@@ -231,7 +231,9 @@ def command(name, *options, **more):
 
 
 def by_recorder(report):
-    """The recorder itself, from the example and from standard input."""
+    """The recorder itself, from the example and from standard input; the first run may have to ask rt about it."""
+    first = command('session', '--summary')
+    report.check(first.returncode == 0, f'bin/session does not run the recorder: {first.stderr.decode()}')
     expect(report, 'the example', command('session'), 0, EXAMPLE)
     expect(report, 'case 9', command('session', '--summary', str(FOLDER / 'case-9-ten-ticks.in')), 0, CASE_9)
     rows = EXAMPLE.splitlines(keepends=True)
@@ -256,7 +258,7 @@ case $1 in
 doc) echo "$kit/docs/START-HERE.md" ;;
 check)
     echo "$2" >>"$kit/asked"
-    [ -f "$kit/slow" ] && sleep 1.8
+    [ -f "$kit/slow" ] && sleep 0.5
     [ -f "$kit/hang" ] && {{ sleep 300 & echo $! >"$kit/child"; wait; }}
     [ -f "$kit/fail" ] && {{ echo "rt: $2 NOT PROVED"; exit 1; }}
     if [ "$2" = recorder ] && ! cmp -s crates/recorder/src/main.rt target/stamp/recorder; then
@@ -294,6 +296,14 @@ class Scratch:
         self.write(self.kit / 'on' / platform.machine() / 'toolchain' / 'lib' / 'ld-linux-x86-64.so.2', LOADER, 0o755)
         self.write(self.kit / 'path' / 'rt', RT.format(kit=self.kit), 0o755)
         self.recorder(STORED)
+        self.patience('1000')
+
+    def patience(self, seconds):
+        """How long rt may take with no line shown: a busy machine must not make a difference here."""
+        path = self.root / 'bin' / 'lib' / 'proving.py'
+        text, count = re.subn(r'(?m)^AT_ONCE = \S+', f'AT_ONCE = {seconds}', path.read_text())
+        assert count == 1
+        path.write_text(text)
 
     def write(self, path, text, mode=0o644):
         path.parent.mkdir(parents=True, exist_ok=True)
@@ -555,12 +565,14 @@ def read_only(report, scratch):
 def proofs(report, scratch):
     """A line for each crate that takes its time; a failed proof shows what rt said last."""
     scratch.flag('slow')
+    scratch.patience('0')
     done = scratch.run('session')
     shown = re.fullmatch(PROVING, done.stderr.decode()) and done.stdout.decode() == EXAMPLE
     report.check(shown, f'bin/session shows of its proofs:\n{done.stderr.decode()}')
     logged = (scratch.root / 'target' / 'log' / 'bin-session.log').read_text()
     report.check(logged == 'rt: base proved\nrt: recorder proved\n', f'the log of the proofs has: {logged!r}')
     scratch.flag('slow', on=False)
+    scratch.patience('1000')
     scratch.flag('fail')
     (scratch.root / 'crates' / 'base' / 'src' / 'lib.rt').write_text('wrong')
     done = scratch.run('session')

@@ -30,7 +30,6 @@ SECONDS = {
 AT_ONCE = 1.5   # seconds in which rt says that nothing has changed, so that no line need be shown
 ONE_TIME = 30   # seconds that may lie between a program and rt's stamp of it
 PATIENCE = 5    # seconds that a process has to end in before it is killed
-MOMENT = 0.02
 TAIL = 12
 LITTLE = 1 << 16
 
@@ -261,22 +260,11 @@ def waited(process, seconds):
 
 
 def end(process):
-    """Ends what is left of a process and of all that it started, first with a plea and then without."""
+    """Ends a process and all that it started: first with a plea, and what is then left of its group without."""
     with Unbroken():
         for number in (signal.SIGTERM, signal.SIGKILL):
-            deadline = time.monotonic() + PATIENCE
-            while signalled(process, number) and time.monotonic() < deadline:
-                number = 0  # asks whether one is left
-                waited(process, MOMENT)
-                time.sleep(MOMENT)
-
-
-def signalled(process, number):
-    """Sends a signal to a process and all that it started. False where none of them is left."""
-    try:
-        os.killpg(process.pid, number)
-    except ProcessLookupError:
-        return False
-    except PermissionError:
-        return number != 0  # one runs as another user, and it ends with its parent
-    return True
+            try:
+                os.killpg(process.pid, number)
+            except (ProcessLookupError, PermissionError):
+                pass  # none is left, or what is left runs as another user and ends with its parent
+            waited(process, PATIENCE)
