@@ -4,6 +4,7 @@ What it says is held to the model, which knows the phase of each unit and what i
 tried in a scratch repository with a kit of shell scripts, so that nothing is proved and nothing real is broken.
 """
 
+import fcntl
 import os
 import platform
 import re
@@ -261,6 +262,7 @@ check)
     [ -f "$kit/slow" ] && sleep 0.5
     [ -f "$kit/hang" ] && {{ sleep 300 & echo $! >"$kit/child"; wait; }}
     [ -f "$kit/fail" ] && {{ echo "rt: $2 NOT PROVED"; exit 1; }}
+    [ -f "$kit/full" ] && {{ echo 'rattle: cannot write: No space left on device'; exit 2; }}
     if [ "$2" = recorder ] && ! cmp -s crates/recorder/src/main.rt target/stamp/recorder; then
         mkdir -p target/bin target/stamp
         cp "$kit/recorder" target/bin/recorder && cp crates/recorder/src/main.rt target/stamp/recorder
@@ -580,6 +582,12 @@ def proofs(report, scratch):
     failed = '    rt: base NOT PROVED\n' in said and 'base was not proved: rt ended with 1' in said
     report.check(failed and done.returncode == 1 and not done.stdout, f'bin/session on a failed proof: {done.returncode}: {said}')
     scratch.flag('fail', on=False)
+    scratch.flag('full')
+    fails(report, 'a disk that fills up', scratch.run('session'), 2, 'base was not proved', 'is full')
+    scratch.flag('full', on=False)
+    with open(scratch.root / 'target' / 'log' / 'bin-session.log', 'ab') as log:
+        fcntl.flock(log, fcntl.LOCK_EX)
+        fails(report, 'two provers', scratch.run('session'), 2, 'another command is proving here')
     report.check(scratch.run('session').returncode == 0, 'bin/session does not mend itself after a failed proof')
 
 
