@@ -1,12 +1,19 @@
-"""bin/journal: its reading of good lines, damaged lines, gaps, and no lines at all."""
+"""bin/journal: good lines, damaged lines, gaps, no lines at all, and journals that no station could write."""
 
+import random
 import subprocess
 import sys
 
 import model
 from check_stored import FOLDER
-from model import written
+from drive import Driver
+from model import CHECK, DEFECT, INTERRUPT, LONG, MARKER, MISSED, PHASE, SILENCE, START, written
 from programs import ROOT
+
+sys.path.insert(0, str(ROOT / 'bin'))
+
+from lib.journal import Journal
+from lib.words import answer as read_answer
 
 EXAMPLE = '''\
      line  event         number       unit  what it says
@@ -20,43 +27,115 @@ EXAMPLE = '''\
         8  accepted
         9  accepted                         inspect
        10  START              1             clearance number 2
-       11  PHASE              2          2  sampling at level 0
+       11  PHASE              2          2  sampling level 0
        12  MISSED             3          5  1 unit not seen: 5
        13  PHASE              4          6  screening
        14  accepted
-Numbers 1 to 4: all accounted for; none only named by a marker.
+Events 1 to 4: all accounted for; this file cannot tell what came after 4.
 '''
 EVERY_KIND = '''\
      line  event         number       unit  what it says
-        1  START              1             clearance number 10,000
+        1  START              1             clearance number 14
         2  GAP                2             1 event dropped: 2
         3  GAP                3             7 events dropped: 3 to 9
-        4  PHASE             10      1,234  sampling at level 2
-        5  LONG              11      1,235  300 units screened
-        6  DEFECT            12      1,235  in screening
-        7  DEFECT            13      1,236  in sampling
-        8  MISSED            14      1,237  3 units not seen: 1,237 to 1,239
-        9  SILENCE           15      1,240  1 tick in a row with no unit
-       10  CHECK             16      1,240  a defect found in a screened unit
-       12  INTERRUPT         17      1,240  screening starts anew
-Numbers 1 to 17: all accounted for; only named by a marker: 2 to 9.
+        4  PHASE             10      1,234  sampling level 2
+        5  DEFECT            11      1,235  in sampling
+        6  PHASE             12      1,235  screening
+        7  DEFECT            13      1,236  in screening
+        8  DEFECT            14      1,250  in screening
+        9  LONG              15      1,250  15 units screened
+       10  MISSED            16      1,251  3 units not seen: 1,251 to 1,253
+       11  SILENCE           17      1,254  1 tick in a row with no unit
+       12  CHECK             18      1,254  a defect found in a screened unit
+       14  INTERRUPT         19      1,254  screening starts anew
+Events 1 to 19: all accounted for; only named by a marker: 2 to 9; this file cannot tell what came after 19.
 '''
 KINDS = [
-    (0, 1, 1, 0, 10_000), (0, 9, 2, 0, 1), (0, 9, 3, 0, 7), (0, 2, 10, 1_234, 3), (0, 3, 11, 1_235, 300),
-    (0, 4, 12, 1_235, 0), (0, 4, 13, 1_236, 1), (0, 5, 14, 1_237, 3), (0, 6, 15, 1_240, 1), (0, 7, 16, 1_240, 0),
-    (10, 0, 0, 0, 0), (0, 8, 17, 1_240, 0),
+    (0, 1, 1, 0, 14), (0, 9, 2, 0, 1), (0, 9, 3, 0, 7), (0, 2, 10, 1_234, 3), (0, 4, 11, 1_235, 1), (0, 2, 12, 1_235, 0),
+    (0, 4, 13, 1_236, 0), (0, 4, 14, 1_250, 0), (0, 3, 15, 1_250, 15), (0, 5, 16, 1_251, 3), (0, 6, 17, 1_254, 1),
+    (0, 7, 18, 1_254, 0), (10, 0, 0, 0, 0), (0, 8, 19, 1_254, 0),
 ]
 DAMAGED = [
     b'\n', b'00 00 00000000 00000000 0000000\n', b'00 00 00000000 00000000 000000000\n', b'00 00 00000000  00000000 00000000\n',
     b'00 00 0000000a 00000000 00000000\n', b'00 00 00000000 00000000 00000000\r\n', b' 00 00 00000000 00000000 00000000\n',
-    b'\xff\xfe\n', b'0' * 10_000 + b'\n',
-    b'00 0A 00000002 00000000 00000000\n', b'00 02 00000002 00000001 00000004\n', b'00 04 00000002 00000001 00000002\n',
-    b'00 01 00000000 00000000 00000001\n', b'00 06 007A1201 00000000 00000001\n', b'00 09 00000002 00000001 00000001\n',
-    b'00 09 00000002 00000000 00000000\n', b'00 09 00000002 00000000 FFFFFFFF\n', b'00 05 00000002 00000001 00000000\n',
-    b'00 05 00000002 000F4240 00000002\n', b'0B 00 00000000 00000000 00000000\n', b'04 00 00000000 00000000 00000001\n',
-    b'04 01 00000001 00000000 00000001\n', b'00 00 00000001 00000000 00000000\n', b'00 00 00000000 00000000 00000002\n',
-    b'00 00 00000000 00000000 00000000',
+    b'\xff\xfe\n', b'0' * 10_000 + b'\n', b'02 00000001\n', b'00 00 00000000 00000000 00000000',
 ]
+# Answer lines that no program writes, whatever came before.
+OUT_OF_PLACE = [
+    (0, 10, 2, 0, 0), (0, 2, 2, 1, 4), (0, 4, 2, 1, 2), (0, 1, 0, 0, 1), (0, 6, 8_000_001, 0, 1), (0, 9, 2, 1, 1),
+    (0, 9, 2, 0, 0), (0, 9, 2, 0, 2 ** 32 - 1), (0, 9, 2, 0, 7_999_992), (0, 5, 2, 1, 0), (0, 5, 2, 1_000_000, 1),
+    (0, 5, 2, 0, 1), (0, 6, 2, 0, 0), (0, 7, 2, 0, 0), (0, 7, 2, 1, 1), (0, 8, 2, 0, 1), (0, 2, 2, 0, 1), (0, 4, 2, 0, 0),
+    (0, 6, 2, 1_000_001, 1), (0, 1, 2, 0, 2), (11, 0, 0, 0, 0), (4, 0, 0, 0, 1), (4, 1, 1, 0, 1), (0, 0, 1, 0, 0),
+    (0, 0, 0, 0, 2),
+]
+# The entries (kind, unit, value) from event 1 on; the last two are one that a station can write there, and one that
+# none can, with a part of what is said of it.
+OPEN = (START, 0, 5)
+SAMPLING = (OPEN, (PHASE, 5, 1))
+HIDDEN = ((MARKER, 0, 8),)
+HISTORIES = {
+    'a first event that is not START': ((), OPEN, (SILENCE, 0, 1), 'event 1 is START'),
+    'START with a unit': ((), OPEN, (START, 1, 5), 'unit 0'),
+    'START with no clearance number': ((), OPEN, (START, 0, 0), '1 to 10,000'),
+    'START beyond the range': ((), (START, 0, 10_000), (START, 0, 10_001), '1 to 10,000'),
+    'a second START': ((OPEN,), (SILENCE, 0, 1), OPEN, 'a second START'),
+    'units that run backwards': ((OPEN, (SILENCE, 4, 1)), (INTERRUPT, 4, 0), (INTERRUPT, 3, 0), 'backwards'),
+    'missed units that have come': ((OPEN, (SILENCE, 4, 1)), (MISSED, 5, 2), (MISSED, 4, 2), 'backwards'),
+    'too few units since START': ((OPEN,), (PHASE, 5, 1), (PHASE, 4, 1), '4 units since START'),
+    'too few units since a defect': ((OPEN, (DEFECT, 3, 0)), (PHASE, 8, 1), (PHASE, 7, 1), '4 units since unit 3'),
+    'too few units since a check find': ((OPEN, (CHECK, 3, 0)), (PHASE, 8, 1), (PHASE, 5, 1), '2 units since unit 3'),
+    'too few units since an interrupt': ((OPEN, (INTERRUPT, 3, 0)), (PHASE, 8, 1), (PHASE, 5, 1), '2 units since unit 3'),
+    'too few units since a jump': ((OPEN, (MISSED, 2, 3)), (PHASE, 9, 1), (PHASE, 8, 1), '4 units since unit 4'),
+    'too many units with no PHASE': ((OPEN,), (DEFECT, 5, 0), (DEFECT, 6, 0), 'unit 5 at the latest'),
+    'a late SILENCE in screening': ((OPEN,), (SILENCE, 5, 1), (SILENCE, 6, 1), 'unit 5 at the latest'),
+    'a late INTERRUPT in screening': ((OPEN,), (INTERRUPT, 4, 0), (INTERRUPT, 5, 0), 'unit 5 at the latest'),
+    'a late jump in screening': ((OPEN,), (MISSED, 5, 1), (MISSED, 6, 1), 'unit 5 at the latest'),
+    'two results of one unit': ((OPEN, (DEFECT, 3, 0)), (DEFECT, 4, 0), (DEFECT, 3, 0), 'given before'),
+    'a step of two levels': (SAMPLING, (PHASE, 14, 2), (PHASE, 90, 3), 'no step leads'),
+    'sampling out of sampling': (SAMPLING, (PHASE, 14, 2), (PHASE, 90, 1), 'already'),
+    'a level too soon': (SAMPLING, (PHASE, 14, 2), (PHASE, 13, 2), '5 good samples'),
+    'a second level too soon': ((*SAMPLING, (PHASE, 14, 2)), (PHASE, 31, 3), (PHASE, 30, 3), '5 good samples'),
+    'screening with no cause': (SAMPLING, (SILENCE, 9, 1), (PHASE, 9, 0), 'no cause'),
+    'screening after another unit': ((*SAMPLING, (DEFECT, 9, 1)), (PHASE, 9, 0), (PHASE, 10, 0), 'calls for unit 9'),
+    'screening after a jump': ((*SAMPLING, (MISSED, 7, 2)), (PHASE, 9, 0), (PHASE, 8, 0), 'calls for unit 9'),
+    'screening out of screening': ((OPEN, (INTERRUPT, 3, 0)), (SILENCE, 3, 1), (PHASE, 3, 0), 'no cause'),
+    'a jump in sampling with no PHASE': ((*SAMPLING, (MISSED, 7, 2)), (PHASE, 9, 0), (SILENCE, 9, 1), 'calls for PHASE'),
+    'an interrupt in sampling with no PHASE': ((*SAMPLING, (INTERRUPT, 7, 0)), (PHASE, 7, 0), (SILENCE, 7, 1), 'calls for PHASE'),
+    'a defect at a level with no PHASE':
+        ((*SAMPLING, (PHASE, 14, 2), (DEFECT, 20, 1)), (PHASE, 20, 0), (SILENCE, 20, 1), 'calls for PHASE'),
+    'a level after a watch': ((*SAMPLING, (DEFECT, 9, 1)), (SILENCE, 40, 1), (PHASE, 40, 2), 'CSP-2'),
+    'a sample in screening': ((OPEN,), (DEFECT, 3, 0), (DEFECT, 3, 1), 'the phase is screening'),
+    'a screened unit in sampling': (SAMPLING, (DEFECT, 9, 1), (DEFECT, 9, 0), 'the phase is sampling level 0'),
+    'LONG with no DEFECT': ((OPEN,), (SILENCE, 5, 1), (LONG, 5, 5), 'no cause'),
+    'LONG after a sample': ((*SAMPLING, (DEFECT, 9, 1)), (PHASE, 9, 0), (LONG, 9, 5), 'no cause'),
+    'LONG of another unit': ((OPEN, (DEFECT, 5, 0)), (LONG, 5, 5), (LONG, 4, 4), 'calls for unit 5'),
+    'LONG with a wrong count': ((OPEN, (DEFECT, 3, 0), (DEFECT, 8, 0)), (LONG, 8, 8), (LONG, 8, 7), '8 units came'),
+    'LONG below the clearance number': ((OPEN, (DEFECT, 3, 0)), (DEFECT, 4, 0), (LONG, 3, 3), 'clearance number'),
+    'LONG once and then none':
+        ((OPEN, (DEFECT, 5, 0), (LONG, 5, 5), (DEFECT, 6, 0)), (LONG, 6, 6), (SILENCE, 6, 1), 'calls for LONG'),
+    'LONG where a later defect had none':
+        ((OPEN, (DEFECT, 5, 0), (DEFECT, 7, 0), (INTERRUPT, 7, 0), (DEFECT, 12, 0)), (DEFECT, 13, 0), (LONG, 12, 5),
+         'raised none'),
+    'CHECK in sampling': (SAMPLING, (INTERRUPT, 9, 0), (CHECK, 9, 0), 'the phase is sampling'),
+    'CHECK with nothing to recall': ((OPEN, (CHECK, 1, 0)), (CHECK, 2, 0), (CHECK, 1, 0), 'left to recall'),
+    'CHECK of a defective unit': ((OPEN, (DEFECT, 1, 0)), (CHECK, 2, 0), (CHECK, 1, 0), 'left to recall'),
+    'a silence that starts at two': ((OPEN,), (SILENCE, 3, 1), (SILENCE, 3, 2), 'is 1 here'),
+    'a silence that stands still': ((OPEN, (SILENCE, 3, 1)), (SILENCE, 3, 2), (SILENCE, 3, 1), 'is 2 here'),
+    'a unit that was passed over by a jump': ((OPEN, (MISSED, 2, 3)), (SILENCE, 5, 1), (SILENCE, 4, 1), 'backwards'),
+    'a unit above the limit': (HIDDEN, (SILENCE, 1_000_000, 1), (SILENCE, 1_000_001, 1), 'end at 1,000,000'),
+    'a jump above the limit': (HIDDEN, (MISSED, 999_999, 1), (MISSED, 1_000_000, 1), 'above 1,000,000'),
+    'a phase with no unit': (HIDDEN, (PHASE, 1, 0), (PHASE, 0, 0), 'before a unit has come'),
+    'a check find with no unit': (HIDDEN, (CHECK, 1, 0), (CHECK, 0, 0), 'no unit was screened'),
+    'a defect that is neither screened nor sampled': (HIDDEN, (DEFECT, 5, 1), (DEFECT, 5, 2), '0 or 1'),
+    'a sample after PHASE to screening': ((*HIDDEN, (PHASE, 9, 0)), (DEFECT, 10, 0), (DEFECT, 10, 1), 'the phase is screening'),
+    'LONG with more units than have come': (HIDDEN, (LONG, 5, 5), (LONG, 5, 6), 'more than have come'),
+    'more ticks than events': (HIDDEN, (SILENCE, 3, 8), (SILENCE, 3, 9), 'fits its number'),
+    'a silence over a unit': ((OPEN, (SILENCE, 3, 1)), (SILENCE, 4, 1), (SILENCE, 4, 2), 'is 1 here'),
+}
+# What a marker may hide is possible again: the entry that no station could write, behind a marker.
+MADE_POSSIBLE = (
+    'a step of two levels', 'screening with no cause', 'LONG with no DEFECT', 'a silence that starts at two', 'CHECK in sampling',
+)
 
 
 def check(report, pair, options):
@@ -65,24 +144,36 @@ def check(report, pair, options):
     for name, text, closing, status in closings():
         closes(report, name, text, closing, status)
     damaged(report)
+    many_damaged(report)
+    out_of_place(report)
+    histories(report)
     whole_sessions(report)
-    missing_file(report)
-    return f'every kind, {len(DAMAGED)} damaged lines, {len(closings())} closing lines, and every stored session'
+    files(report)
+    heard, caught, tried = random_journals(report, options)
+    return (f'every kind, {len(DAMAGED)} damaged lines, {len(closings())} closing lines, every stored session, '
+            f'{len(HISTORIES)} histories that no station could write, {heard:,} events of random sessions; '
+            f'of {tried:,} changed journals {caught:,} caught')
 
 
 def closings():
     """What the last line says, and the exit status."""
-    none = 'none only named by a marker.'
     return [
-        ('no lines', b'', 'No event is told.', 0),
-        ('one event', silences(1), f'Number 1: all accounted for; {none}', 0),
-        ('a marker', lines((0, 9, 1, 0, 3)), 'Numbers 1 to 3: all accounted for; only named by a marker: 1 to 3.', 0),
-        ('a hole', silences(1, 2, 5), f'Numbers 1 to 5: missing: 3 to 4; {none}', 1),
-        ('a lost start', silences(2, 3), f'Numbers 1 to 3: missing: 1; {none}', 1),
-        ('a repeated line', silences(1, 2, 2, 3), f'Numbers 1 to 3: all accounted for; out of order: 2; {none}', 1),
-        ('a swapped pair', silences(1, 3, 2, 4), f'Numbers 1 to 4: missing: 2; out of order: 2; {none}', 1),
-        ('a late marker', lines((0, 9, 2, 0, 3)), 'Numbers 1 to 4: missing: 1; only named by a marker: 2 to 4.', 1),
-        ('two sessions', silences(1, 2, 1, 2), f'Numbers 1 to 2: all accounted for; out of order: 1, 2; {none}', 1),
+        ('no lines', b'', 'The file is empty: no answer and no event.', 0),
+        ('no events', lines((0, 0, 0, 0, 1)), 'No event is told; this file cannot tell what was raised.', 0),
+        ('one event', told(1), 'Event 1: all accounted for; this file cannot tell what came after 1.', 0),
+        ('a marker', lines((0, 9, 1, 0, 3)),
+         'Events 1 to 3: all accounted for; only named by a marker: 1 to 3; this file cannot tell what came after 3.', 0),
+        ('a hole', told(1, 2, 5), 'Events 1 to 5: missing: 3 to 4; this file cannot tell what came after 5.', 1),
+        ('a lost start', told(2, 3), 'Events 1 to 3: missing: 1; this file cannot tell what came after 3.', 1),
+        ('a repeated line', told(1, 2, 2, 3),
+         'Events 1 to 3: all accounted for; out of order: 2; this file cannot tell what came after 3.', 1),
+        ('a swapped pair', told(1, 3, 2, 4),
+         'Events 1 to 4: missing: 2; out of order: 2; this file cannot tell what came after 4.', 1),
+        ('a late marker', lines((0, 9, 2, 0, 3)),
+         'Events 1 to 4: missing: 1; only named by a marker: 2 to 4; this file cannot tell what came after 4.', 1),
+        ('two sessions', told(1, 2, 1, 2), 'No station could write this journal: 1 line cannot be (line 3).', 1),
+        ('many holes', told(1, *range(3, 40, 2)),
+         'Events 1 to 39: missing: 2, 4, 6, 8, 10 and 14 more; this file cannot tell what came after 39.', 1),
     ]
 
 
@@ -94,8 +185,9 @@ def lines(*answers):
     return b''.join(map(written, answers))
 
 
-def silences(*numbers):
-    return lines(*((0, model.SILENCE, number, 0, 1) for number in numbers))
+def told(*numbers):
+    """START, and ticks with no unit, under these numbers."""
+    return lines(*((0, START, 1, 0, 2) if number == 1 else (0, SILENCE, number, 0, number - 1) for number in numbers))
 
 
 def says(report, name, text, expected, *options):
@@ -111,23 +203,153 @@ def closes(report, name, text, closing, status):
     report.check(good, f'bin/journal on {name} ends with {done.returncode} and: {last}')
 
 
+# ---- Lines that cannot be read
+
 def damaged(report):
     """Each damaged line alone between two good ones is named, and the good ones are still read."""
     for line in DAMAGED:
-        done = journal(silences(1) + line + (silences(2) if line.endswith(b'\n') else b''))
-        named = done.stderr.decode().startswith('journal: line 2: ') and done.stderr.count(b'\n') == 1
-        read = done.stdout.count(b'SILENCE') == 1 + line.endswith(b'\n') and b'all accounted for' in done.stdout
+        whole = line.endswith(b'\n')
+        done = journal(told(1) + line + (told(2) if whole else b''))
+        named = done.stderr.decode().startswith('bin/journal: line 2 is no answer line: ') and done.stderr.count(b'\n') == 1
+        read = (done.stdout.count(b'START'), done.stdout.count(b'SILENCE')) == (1, whole) and b'all accounted for' in done.stdout
         report.check(named and read and done.returncode == 1, f'bin/journal on the damaged line {line[:60]!r}: {done.stderr!r}')
 
 
+def many_damaged(report):
+    """A file of bad lines is a count and the first few, and a hint where it is another kind of file."""
+    done = journal(told(1) + b'no answer\n' * 1_000)
+    said = done.stderr.decode().splitlines()
+    counted = len(said) == 6 and said[-1] == 'bin/journal: 1,000 of 1,001 lines are no answer lines; the first 5 are shown'
+    report.check(counted and done.returncode == 1, f'bin/journal on a thousand bad lines: {said[:8]}')
+    for name, text, hint in (('frames', (FOLDER / 'example.in').read_bytes(), b'bin/session runs a file of frames'),
+                             ('CR LF', told(1, 2, 3).replace(b'\n', b'\r\n'), b'CR LF')):
+        done = journal(text)
+        report.check(hint in done.stderr and done.returncode == 1, f'bin/journal gives no hint on {name}: {done.stderr!r}')
+        report.check(hint not in journal(told(1) + text).stderr, f'bin/journal gives a hint on a file that is not all {name}')
+
+
+# ---- Journals that no station could write
+
+def out_of_place(report):
+    """A line that no program writes is named beneath itself; here each has the next number where it has one in range."""
+    answers = [(*answer[:2], at if answer[2] == 2 else answer[2], *answer[3:]) for at, answer in enumerate(OUT_OF_PLACE, 2)]
+    done = journal(told(1) + lines(*answers))
+    rows = done.stdout.decode().splitlines()
+    for at, answer in enumerate(answers, 2):
+        under = [note for row, note in zip(rows, rows[1:]) if row.startswith(f'{at:>9,}  ')]
+        noted = under and under[0].startswith('           ! no station could write this: ')
+        report.check(noted, f'bin/journal takes {answer}: {under}')
+    closed = rows[-1].startswith(f'No station could write this journal: {len(answers)} lines cannot be (line 2, 3, ')
+    report.check(closed and done.returncode == 1, f'bin/journal on lines out of place: {done.returncode}: {rows[-1]}')
+
+
+def numbered(entries):
+    """The entries as answers, numbered from 1 on; a marker takes as many numbers as it names."""
+    answers, number = [], 1
+    for kind, unit, value in entries:
+        answers.append((0, kind, number, unit, value))
+        number += value if kind == MARKER else 1
+    return answers
+
+
+def faults(answers):
+    """What is said of each line that is not well, by its place."""
+    heard, said = Journal(), {}
+    for at, (_, *entry) in enumerate(answers, 1):
+        fault = heard.hear(at, *entry)
+        if fault:
+            said[at] = fault
+    return said
+
+
+def histories(report):
+    for name, (before, good, bad, why) in HISTORIES.items():
+        report.check(not faults(numbered((*before, good))), f'bin/journal does not take what a station can write beside: {name}')
+        said = faults(numbered((*before, bad)))
+        report.check(list(said) == [len(before) + 1] and why in said[len(before) + 1], f'bin/journal says of {name}: {said}')
+    for name in MADE_POSSIBLE:
+        before, _, bad, _ = HISTORIES[name]
+        said = faults(numbered((*before, *HIDDEN, bad)))
+        report.check(not said, f'bin/journal forgets that a marker may hide what makes it possible: {name}: {said}')
+    said = faults(numbered((OPEN, (SILENCE, 4, 1), (INTERRUPT, 2, 0), (SILENCE, 3, 1))))
+    report.check(list(said) == [3], f'bin/journal says one fault more than once: {said}')
+    done = journal(lines(*numbered((*SAMPLING, (DEFECT, 9, 0), (SILENCE, 9, 1)))))
+    note = b'           ! no station could write this: the phase is sampling level 0\n'
+    closed = done.stdout.endswith(b'No station could write this journal: 1 line cannot be (line 3).\n')
+    said = note in done.stdout and closed and done.returncode == 1
+    report.check(said, f'bin/journal on a wrong DEFECT:\n{done.stdout.decode()}')
+
+
+# ---- What stations do write
+
 def whole_sessions(report):
     """What a session takes is in order and without a hole, so every stored session reads well."""
-    for path in sorted(FOLDER.glob('*.out')):
+    paths = sorted(FOLDER.glob('*.out'))
+    for path in paths:
+        answers = [read_answer(line + b'\n') for line in path.read_bytes().split(b'\n')[:-1]]
+        told_so = None not in answers and faults([numbers for numbers in answers if numbers[1]])
+        report.check(told_so == {}, f'bin/journal does not read sessions/{path.name}: {told_so}')
+    longest = max(paths, key=lambda path: path.stat().st_size)
+    done = journal(b'', str(longest))
+    read = done.returncode == 0 and done.stdout.count(b'\n') == longest.read_bytes().count(b'\n') + 2
+    report.check(read, f'bin/journal does not read sessions/{longest.name}: {done.stderr!r}')
+
+
+def random_journals(report, options):
+    """Every event of random sessions is possible, with markers in any place too; most changes of one entry are not."""
+    heard = caught = tried = 0
+    for at in range(max(20, options.count // 10)):
+        name = f'{options.seed}-journal-{at}'
+        entries, chosen = whole_journal(name), random.Random(name)
+        heard += len(entries)
+        for told_so in (entries, with_markers(entries, chosen), with_markers(entries, chosen)):
+            report.check(not faults(told_so), f'bin/journal calls the random session {name} impossible: {faults(told_so)}')
+        for _ in range(5):
+            changed = with_a_change(entries, chosen)
+            tried += 1
+            caught += bool(faults(changed))
+    report.check(caught > tried * 2 // 3, f'bin/journal finds {caught:,} of {tried:,} changed journals to be impossible')
+    return heard, caught, tried
+
+
+def whole_journal(name):
+    """Every event of a random session: the model's queue has room for all of them."""
+    driver = Driver(name)
+    driver.program.queue = [0] * (3 * model.MOST_ROOM)
+    driver.drive()
+    while driver.take()[1]:
+        pass
+    return [answer for answer in driver.answers if answer[1]]
+
+
+def with_markers(entries, chosen):
+    marked, at = [], 0
+    while at < len(entries):
+        if chosen.random() < 0.1:
+            count = min(chosen.randrange(1, 9), len(entries) - at)
+            marked.append((0, MARKER, entries[at][2], 0, count))
+            at += count
+        else:
+            marked.append(entries[at])
+            at += 1
+    return marked
+
+
+def with_a_change(entries, chosen):
+    at = chosen.randrange(len(entries))
+    _, kind, number, unit, value = entries[at]
+    change = chosen.choice((
+        (0, kind % 8 + 1, number, unit, value), (0, kind, number, max(0, unit - 1), value), (0, kind, number, unit + 3, value),
+        (0, kind, number, unit, value + 1),
+    ))
+    return [*entries[:at], change, *entries[at + 1:]]
+
+
+# ---- Files
+
+def files(report):
+    """A folder and a file that is not there are said in one line."""
+    for path in (FOLDER, FOLDER / 'no-such-session.out'):
         done = journal(b'', str(path))
-        read = done.returncode == 0 and done.stdout.count(b'\n') == path.read_bytes().count(b'\n') + 2
-        report.check(read, f'bin/journal does not read sessions/{path.name}: {done.stderr!r}')
-
-
-def missing_file(report):
-    done = journal(b'', str(FOLDER / 'no-such-session.out'))
-    report.check(done.returncode != 0 and done.stderr, 'bin/journal does not say that a file is not there')
+        good = done.returncode == 2 and done.stderr.count(b'\n') == 1 and str(path).encode() in done.stderr and not done.stdout
+        report.check(good, f'bin/journal on {path} ends with {done.returncode}: {done.stderr!r}')

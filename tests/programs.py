@@ -15,7 +15,7 @@ from functools import lru_cache
 from pathlib import Path
 
 ROOT = Path(__file__).resolve().parent.parent
-RECORDER_ROOT = Path(os.environ.get('RECORDER_ROOT', ROOT))
+RECORDER_ROOT = Path(os.environ.get('RECORDER_ROOT') or ROOT)
 SECOND_ROOT = Path(os.environ.get('SECOND_ROOT', ROOT))
 BUILD = ROOT / 'build'
 
@@ -34,9 +34,11 @@ class Missing(Exception):
 def kit():
     """The kit's folder: `rt doc` names a page two folders below it."""
     if shutil.which('rt') is None:
-        raise Missing('rt is not on the path: the kit runs what it built')
-    page = subprocess.run(['rt', 'doc'], capture_output=True, text=True, check=True).stdout.strip()
-    return Path(page).parent.parent
+        raise Missing('rt is not on the path: the Rattle kit proves, builds and runs the programs')
+    asked = subprocess.run(['rt', 'doc'], capture_output=True, text=True)
+    if asked.returncode != 0:
+        raise Missing(f'the Rattle kit does not work: rt doc ended with {asked.returncode}: {asked.stderr.strip()}')
+    return Path(asked.stdout.strip()).parent.parent
 
 
 def kit_here():
@@ -57,6 +59,8 @@ def emulator():
 def under_kit(path):
     """The words that run an x86-64 program that is linked with the kit's C library."""
     library = toolchain() / 'lib'
+    if not (library / 'ld-linux-x86-64.so.2').is_file():
+        raise Missing(f'the Rattle kit at {kit()} has no loader for this machine, {platform.machine()}')
     start = [emulator()] if emulator() else []
     return [str(word) for word in (*start, library / 'ld-linux-x86-64.so.2', '--library-path', library, path)]
 

@@ -1,0 +1,1 @@
+"""What the commands in bin/ share. It stands beside them so that a copy of bin/ and tests/programs.py is whole."""

@@ -1,0 +1,113 @@
+"""The journal that a file of answers tells: which event numbers it accounts for, and whether a station could write it."""
+
+from lib.history import MOST_EVENTS, RULES, History, marker_fault
+from lib.words import GAP, REFUSALS, START, counted, few, span, spans
+
+IMPOSSIBLE = 'no station could write this: '
+
+
+class Journal:
+    """What the entries so far have told."""
+
+    def __init__(self):
+        self.last = 0          # the highest number told or named
+        self.missing = []      # stretches that no entry names
+        self.marked = []       # stretches that a marker names
+        self.repeated = []     # stretches that came again, or late
+        self.impossible = []   # the lines that no station could write
+        self.history = History()
+
+    # ---- Hearing
+
+    def hear(self, line, kind, number, unit, value):
+        """Accounts for an entry. Answers what is wrong with it, in words, or None."""
+        if number == self.last + 1 <= MOST_EVENTS and kind in RULES:
+            self.last = number  # an event in its place, as nearly all are
+            return self.possible(line, kind, number, unit, value)
+        fault = alone_fault(kind, number, unit, value)
+        if fault is not None:
+            return self.cannot_be(line, fault)
+        last = number + value - 1 if kind == GAP else number
+        if number <= self.last:
+            return self.out_of_order(line, kind, number, last)
+        hole = self.hole_before(number)
+        self.last = last
+        if kind == GAP:
+            self.history.forget()
+            join(self.marked, number, last)
+            return hole
+        return self.possible(line, kind, number, unit, value) or hole
+
+    def possible(self, line, kind, number, unit, value):
+        fault = self.history.hear(kind, number, unit, value)
+        return None if fault is None else self.cannot_be(line, fault)
+
+    def hole_before(self, number):
+        if number == self.last + 1:
+            return None
+        self.history.forget()
+        join(self.missing, self.last + 1, number - 1)
+        return f'missing before this: {span(self.last + 1, number - 1)}'
+
+    def out_of_order(self, line, kind, first, last):
+        join(self.repeated, first, last)
+        if kind == START:
+            return self.cannot_be(line, 'a second START')
+        return f'out of order: {span(first, last)} after {self.last:,}'
+
+    def cannot_be(self, line, why):
+        self.impossible.append(line)
+        return IMPOSSIBLE + why
+
+    # ---- Closing
+
+    def sound(self):
+        return not (self.missing or self.repeated or self.impossible)
+
+    def closing(self):
+        """Which numbers are accounted for. A journal has no end of its own, so it cannot show that it is whole."""
+        if self.last == 0:
+            return 'No event is told; this file cannot tell what was raised.'
+        parts = [f'missing: {spans(self.missing)}' if self.missing else 'all accounted for']
+        if self.repeated:
+            parts.append(f'out of order: {spans(self.repeated)}')
+        if self.marked:
+            parts.append(f'only named by a marker: {spans(self.marked)}')
+        parts.append(f'this file cannot tell what came after {self.last:,}')
+        return f'{"Event" if self.last == 1 else "Events"} {span(1, self.last)}: {"; ".join(parts)}.'
+
+    def verdict(self, noun='line'):
+        """A line on what no station could write, or None."""
+        if not self.impossible:
+            return None
+        lines = few([f'{line:,}' for line in self.impossible])
+        return f'No station could write this journal: {counted(len(self.impossible), noun)} cannot be ({noun} {lines}).'
+
+
+def join(stretches, first, last):
+    """Adds a stretch; two that meet are one to a reader."""
+    if stretches and stretches[-1][1] == first - 1:
+        first = stretches.pop()[0]
+    stretches.append((first, last))
+
+
+# ---- What is wrong with an answer by itself
+
+def alone_fault(kind, number, unit, value):
+    """Why no entry has these words, whatever came before it, or None."""
+    if kind != GAP and kind not in RULES:
+        return f'there is no kind {kind}'
+    if not 1 <= number <= MOST_EVENTS:
+        return f'event numbers are 1 to {MOST_EVENTS:,}'
+    return marker_fault(number, unit, value) if kind == GAP else None
+
+
+def plain_fault(refusal, kind, number, unit, value):
+    """Why no answer that tells no event has these words, or None."""
+    if refusal and refusal not in REFUSALS:
+        return f'there is no refusal {refusal}'
+    if refusal and (kind or number or unit or value):
+        return 'a refusal has zeros behind its number'
+    if not refusal and (number or unit or value > 1):
+        return 'an answer with no event has at most an order, 0 or 1'
+    return None

@@ -1,0 +1,252 @@
+"""A session as its frames and answers tell it: a row for each frame, and a summary.
+
+It claims nothing that the frames and answers do not show. The phases come from the journal's entries that were taken;
+where a marker stands for them, or no take has told them yet, the phase is not told.
+"""
+
+from collections import Counter, deque
+
+from lib import calls, words
+from lib.calls import FIND, INTERRUPTED, NO_FRAME, OPEN, RESULT, TABLE, TAKE, TICK, UNIT
+from lib.journal import Journal, plain_fault
+from lib.phases import Phases
+from lib.words import CHECK, DEFECT, GAP, INTERRUPT, KINDS, LONG, MISSED, PHASE, SILENCE, START, counted
+
+CALL = 22
+NUMBERS_END = 10  # a refusal that no call asks for: it comes when the event numbers run out
+HEAD = f'{"frame":>9}  {"call and answer":<{CALL}}  {words.COLUMNS}'
+
+
+class Tally:
+    """The units, each counted once, as the accepted calls tell them."""
+
+    def __init__(self):
+        self.last = self.conforming = self.defective = self.passed = self.owed = 0
+        self.missed = []
+
+    def unit(self, number, order):
+        if number > self.last + 1:
+            self.missed.append((self.last + 1, number - 1))
+        self.last = number
+        self.owed = order
+        self.passed += 1 - order
+
+    def result(self, value):
+        self.owed = 0
+        if value:
+            self.defective += 1
+        else:
+            self.conforming += 1
+
+    def unseen(self):
+        return sum(last - first + 1 for first, last in self.missed)
+
+
+class Raised:
+    """The events that the accepted calls raise for certain: all but PHASE and LONG follow from the calls alone."""
+
+    def __init__(self):
+        self.least = 0         # so many events were raised, or more
+        self.more = False      # more may have been raised since a take came back empty
+        self.quiet = True      # no unit since the last tick, or since the open
+        self.silent = 0
+        self.untold = deque()  # those that were not told yet
+        self.followed = True   # no marker and no fault stands between, so the next one to be told is known
+
+    def surely(self, kind, unit, value=None):
+        """An event; its value is None where the calls do not tell it."""
+        self.least += 1
+        self.more = True
+        if self.followed:
+            self.untold.append((kind, unit, value))
+
+    def perhaps(self):
+        self.more = True
+
+    def tick(self, last):
+        self.silent = self.silent + 1 if self.quiet else 0
+        if self.quiet:
+            self.surely(SILENCE, last, self.silent)
+        self.quiet = True
+
+    def told(self, kind, unit, value):
+        """Why the calls do not raise an event that is told next, or None."""
+        if kind in (PHASE, LONG) or not self.followed:
+            return None
+        due = self.untold.popleft() if self.untold else None
+        if due and due[:2] == (kind, unit) and due[2] in (None, value):
+            return None
+        self.lose()
+        return f'the calls raise {KINDS[due[0]]} with unit {due[1]:,} here' if due else 'no call has raised it'
+
+    def lose(self):
+        """What is told next is not known any more, until a take comes back empty."""
+        self.followed = False
+        self.untold.clear()
+
+    def left(self, told):
+        """So many events are untold, or more."""
+        return max(0, self.least - told, len(self.untold))
+
+    def emptied(self, told):
+        self.lose()
+        self.least, self.more, self.followed = told, False, True
+
+
+class Session:
+    def __init__(self):
+        self.journal = Journal()
+        self.tally = Tally()
+        self.raised = Raised()
+        self.phases = Phases()
+        self.plan = None
+        self.limit = 0
+        self.calls = Counter()
+        self.refusals = Counter()
+        self.events = Counter()
+        self.told = None      # the last event that was told
+        self.gaps = []        # each stretch that markers name, with the events told before and after it
+        self.empty = 0        # takes that came back empty
+
+    # ---- Hearing
+
+    def hear(self, at, code, said, answer):
+        """The row of a frame and its answer; beneath it what is wrong, where something is."""
+        self.calls[code] += 1
+        refusal, kind, number, unit, value = answer
+        fault = self.answer_fault(code, said, answer)
+        if fault is not None:
+            raw = '%02X %02X %08X %08X %08X' % answer
+            return self.row(at, f'{calls.asked(code, said)}: {raw}', self.journal.cannot_be(at, fault))
+        if refusal:
+            self.refusals[refusal] += 1
+            return self.row(at, calls.refused(code, said, refusal))
+        if kind:
+            return self.entry(at, kind, number, unit, value)
+        return self.row(at, HEARD[code](self, code, said, value))
+
+    def answer_fault(self, code, said, answer):
+        """Why the program could not answer this call so now, or None."""
+        fault = calls.answer_fault(code, answer) or (plain_fault(*answer) if answer[0] or not answer[1] else None)
+        if fault is not None:
+            return fault
+        due = self.due(code, said)
+        if due is not None and answer[0] not in (due, NUMBERS_END):
+            return f'refusal {due} is due here: {words.REFUSALS[due]}' if due else 'no refusal is due here'
+        left = self.raised.left(self.journal.last)
+        if code == TAKE and left and not any(answer):
+            return f'{counted(left, "event")} or more are untold'
+        return None
+
+    def due(self, code, said):
+        """The refusal that the calls so far ask for, 0 where they ask for none, and None where they do not tell."""
+        if code == NO_FRAME:
+            return 9
+        if code in (OPEN, TABLE):
+            return 9 if self.plan else None
+        if not self.plan:
+            return 2
+        if code == RESULT:
+            return 9 if said[0] > 1 else 0 if self.tally.owed else 5
+        if self.tally.owed and code in (UNIT, INTERRUPTED, FIND):
+            return 4
+        if code == UNIT:
+            return 6 if said[0] <= self.tally.last else 7 if said[0] > self.limit else 0
+        return None if code == FIND else 0
+
+    def row(self, at, text, fault=None):
+        return f'{at:>9,}  {text}\n' + (words.NOTE.format(fault) if fault else '')
+
+    def entry(self, at, kind, number, unit, value):
+        """A take that tells an entry."""
+        before = self.journal.history.phase
+        fault = self.journal.hear(at, kind, number, unit, value)
+        if fault or kind == GAP:
+            self.raised.lose()
+        if fault is None and kind == GAP:
+            self.gap(number, number + value - 1)
+        elif fault is None:
+            self.event(kind, number, unit)
+            self.phases.told(before, kind, min(unit, self.tally.last), value)
+            fault = self.not_raised(at, kind, unit, value)
+        self.raised.least = max(self.raised.least, self.journal.last)
+        return self.row(at, f'{"take":<{CALL}}  {words.entry(kind, number, unit, value)}', fault)
+
+    def not_raised(self, at, kind, unit, value):
+        """Whether the calls raise an event that a station could write; what is wrong, or None."""
+        why = self.raised.told(kind, unit, value)
+        if unit > self.tally.last:
+            why = 'no such unit has come'
+        return self.journal.cannot_be(at, why) if why else None
+
+    def event(self, kind, number, unit):
+        self.events[kind] += 1
+        self.told = (kind, number, unit)
+        if self.gaps and self.gaps[-1]['after'] is None:
+            self.gaps[-1]['after'] = self.told
+
+    def gap(self, first, last):
+        """Markers that follow each other name one stretch to a reader."""
+        if self.gaps and self.gaps[-1]['after'] is None:
+            self.gaps[-1]['last'] = last
+        else:
+            self.gaps.append({'first': first, 'last': last, 'before': self.told, 'after': None})
+
+    # ---- Accepted calls that tell no entry: what each does here, and its words
+
+    def opened(self, code, said, value):
+        self.plan = (code, calls.plan(*said) if code == OPEN else calls.table_entry(*said))
+        self.limit = calls.unit_limit(code, said)
+        self.raised.surely(START, 0, said[2] if code == OPEN else None)
+        return calls.asked(code, said)
+
+    def unit(self, code, said, value):
+        number, = said
+        first = self.tally.last + 1
+        self.tally.unit(number, value)
+        self.raised.quiet = False
+        if number > first:
+            self.raised.surely(MISSED, first, number - first)
+        return f'unit {number:,}: {words.ORDERS[value]}' + calls.skipped(first, number - 1)
+
+    def result(self, code, said, value):
+        self.tally.result(*said)
+        if said[0]:
+            self.raised.surely(DEFECT, self.tally.last)
+        else:
+            self.raised.perhaps()
+        return calls.asked(code, said)
+
+    def interrupted(self, code, said, value):
+        self.raised.surely(INTERRUPT, self.tally.last, 0)
+        return calls.asked(code, said)
+
+    def found(self, code, said, value):
+        self.raised.surely(CHECK, self.tally.last, 0)
+        return calls.asked(code, said)
+
+    def ticked(self, code, said, value):
+        self.raised.tick(self.tally.last)
+        return calls.asked(code, said)
+
+    def nothing(self, code, said, value):
+        self.empty += 1
+        self.raised.emptied(self.journal.last)
+        self.all_told()
+        return 'take: nothing to tell'
+
+    def all_told(self):
+        """Every event has been told, so the phase in force is that of the units so far."""
+        self.phases.through(self.tally.last, self.journal.history.phase)
+
+    def stretches(self):
+        """The units up to the last, as stretches of one phase each."""
+        if self.empty and not self.raised.more:
+            self.all_told()
+        return self.phases.labelled(self.tally.last, self.tally.missed)
+
+
+HEARD = {
+    OPEN: Session.opened, TABLE: Session.opened, UNIT: Session.unit, RESULT: Session.result, TICK: Session.ticked,
+    INTERRUPTED: Session.interrupted, FIND: Session.found, TAKE: Session.nothing,
+}

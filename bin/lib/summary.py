@@ -1,0 +1,141 @@
+"""A session in a few lines: its plan, units, events and phases, what was dropped, and one line of verdict."""
+
+import textwrap
+
+from lib import phases
+from lib.calls import FIND, INTERRUPTED, NAMES, NO_FRAME, OPEN, RESULT, TABLE, TAKE, TICK, UNIT
+from lib.words import KINDS, counted, span, spans
+
+LABEL = 11
+WIDTH = 100
+FEW_GAPS = 2
+ORDER = (OPEN, TABLE, UNIT, RESULT, INTERRUPTED, FIND, TICK, TAKE, NO_FRAME)
+
+
+def lines(session):
+    """The summary, line for line; the verdict is the last."""
+    parts = [('plan', [plan(session)]), ('frames', frames(session))]
+    if session.plan:
+        parts += [('units', [units(session.tally)]), ('events', [events(session)])]
+        parts += [('dropped', dropped(session))] if session.gaps else []
+        parts += [('phases', phase_lines(session))] if session.tally.last else []
+    told = ['Summary']
+    for label, texts in parts:
+        told += [f'  {label if at == 0 else "":<{LABEL}}{text}' for at, text in enumerate(texts)]
+    return told + [verdict(session)]
+
+
+# ---- The parts
+
+def plan(session):
+    """The plan that was opened; a table's numbers are not in the frames, and START tells one of them."""
+    if not session.plan:
+        return 'no station was opened'
+    code, text = session.plan
+    told = session.journal.history.clearance
+    return f'{text}; START tells i {told:,}' if code == TABLE and told else text
+
+
+def frames(session):
+    by_call = ', '.join(f'{NAMES[code]} {session.calls[code]:,}' for code in ORDER if session.calls[code])
+    count = sum(session.refusals.values())
+    by_number = ', '.join(f'{times:,} with {number}' for number, times in sorted(session.refusals.items()))
+    told = textwrap.wrap(f'{sum(session.calls.values()):,}: {by_call}', WIDTH)
+    return [*told, f'{count:,} refused: {by_number}'] if count else [*told[:-1], f'{told[-1]}; none refused']
+
+
+def units(tally):
+    if not tally.last:
+        return 'none has come'
+    kinds = [
+        (tally.conforming, 'conforming'), (tally.defective, 'defective'), (tally.passed, 'passed'), (tally.unseen(), 'missed'),
+        (tally.owed, 'owed a result'),
+    ]
+    return f'{tally.last:,}: ' + ', '.join(f'{count:,} {name}' for count, name in kinds)
+
+
+def events(session):
+    by_kind = ', '.join(f'{KINDS[kind]} {count:,}' for kind, count in sorted(session.events.items()))
+    named = sum(gap['last'] - gap['first'] + 1 for gap in session.gaps)
+    told = sum(session.events.values())
+    return (f'{told:,} told: {by_kind}' if told else 'none told') + (f'; {named:,} dropped' if named else '')
+
+
+def dropped(session):
+    """What each marker names, and the events told on either side of it."""
+    rows = [f'{span(gap["first"], gap["last"])}: {between(gap)}' for gap in session.gaps]
+    more = len(rows) - phases.MOST_ROWS
+    return rows[:phases.MOST_ROWS] + ([f'and {more:,} more stretches'] if more > 0 else [])
+
+
+def between(gap):
+    before = f'after {event(gap["before"])}' if gap['before'] else 'the first events'
+    after = f'before {event(gap["after"])}' if gap['after'] else 'and nothing was taken behind the marker'
+    return f'{before}, {after}'
+
+
+def event(told):
+    kind, number, unit = told
+    return f'{KINDS[kind]} {number:,} ({f"unit {unit:,}" if unit else "no unit yet"})'
+
+
+def phase_lines(session):
+    """The stretches in words, and the same as a strip to look at."""
+    parts = session.stretches()
+    signs, each = phases.strip(parts)
+    scale = 'one sign a unit' if each == 1 else f'one sign for {each:,} units'
+    return [*phases.rows(parts), f'[{signs}]', f'{scale}: {phases.KEY}']
+
+
+# ---- The verdict
+
+def verdict(session):
+    journal, raised = session.journal, session.raised
+    if journal.impossible:
+        return journal.verdict('frame')
+    if journal.missing or journal.repeated:
+        return journal.closing()
+    if not session.plan:
+        return 'No station was opened, so no event was raised.'
+    left = raised.left(journal.last)
+    if not journal.last:
+        return f'Nothing was taken: {counted(left, "event")} or more are untold. Take (07) until nothing is told.'
+    return f'{taken(session, bool(left or raised.more or not session.empty))}{behind(session, left)}'
+
+
+def taken(session, open_end):
+    last, gaps = session.journal.last, [(gap['first'], gap['last']) for gap in session.gaps]
+    if not gaps and not open_end:
+        return f'{"The one event" if last == 1 else f"Every event from 1 to {last:,}"} was taken and none is missing.'
+    if not gaps:
+        return f'{"Event" if last == 1 else "Events"} {span(1, last)}: taken, and none is missing.'
+    if len(gaps) > FEW_GAPS:
+        return many_dropped(last, gaps)
+    by = 'the marker says' if len(gaps) == 1 else 'markers say'
+    were = f'Event {gaps[0][0]:,} was' if gaps[0][0] == gaps[-1][1] else f'Events {spans(gaps)} were'
+    said = f'{were} dropped, and {by} so'
+    rest = others(gaps, last)
+    return f'{said}; {spans(rest)} {"was" if rest[0][0] == rest[-1][1] else "were"} taken.' if rest else f'{said}.'
+
+
+def many_dropped(last, gaps):
+    count = sum(end - first + 1 for first, end in gaps)
+    stretches = f'{len(gaps):,} stretches'
+    return f'Of events 1 to {last:,}, {count:,} were dropped, in {stretches}, and markers say so; {last - count:,} were taken.'
+
+
+def others(gaps, last):
+    """The stretches between the gaps."""
+    edges = [0, *(edge for gap in gaps for edge in gap), last + 1]
+    pairs = zip(edges[::2], edges[1::2])
+    return [(before + 1, after - 1) for before, after in pairs if before + 1 < after]
+
+
+def behind(session, left):
+    if left:
+        return f' Entries are left in the queue: {counted(left, "event")} or more are untold. Take on until nothing is told.'
+    if not session.empty:
+        return ' No take came back empty, so more may be left: take on until nothing is told.'
+    if session.raised.more:
+        return ' Calls came after the last take that came back empty, so more may be left: take on until nothing is told.'
+    return ''

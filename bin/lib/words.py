@@ -1,0 +1,121 @@
+"""Words for numbers, answers and events. bin/journal and bin/session both speak them, so they stand here once.
+
+Document 01 gives each number its meaning: a refusal, a kind of event, a value.
+"""
+
+import re
+from struct import Struct
+
+NUMBERS = Struct('>BBIII')
+LINE = re.compile(rb'[0-9A-F]{2} [0-9A-F]{2} [0-9A-F]{8} [0-9A-F]{8} [0-9A-F]{8}\n')
+ANSWERS = re.compile(rb'(?:[0-9A-F]{2} [0-9A-F]{2}(?: [0-9A-F]{8}){3}\n)+[0-9A-F ]{0,32}')  # the last may be torn
+START, PHASE, LONG, DEFECT, MISSED, SILENCE, CHECK, INTERRUPT, GAP = range(1, 10)
+
+ILL_FORMED = 'an ill-formed frame'
+NO_RESULT = 'a result neither 0 nor 1'
+SECOND_OPEN = 'a second open'
+NOT_OPEN = 'no station is open'
+NO_PLAN = 'a plan number is out of range'
+NO_ENTRY = 'the table has no such entry'
+REFUSALS = {
+    1: 'the queue memory is not the station\'s',
+    2: f'no sound record, or {NOT_OPEN}',
+    3: f'{NO_PLAN}, or {NO_ENTRY}',
+    4: 'an inspection result is owed',
+    5: 'no result is owed',
+    6: 'the unit number is not above the last',
+    7: 'the unit number is above the limit',
+    8: 'not in screening, or nothing is left to recall',
+    9: f'{ILL_FORMED}, {NO_RESULT}, or {SECOND_OPEN}',
+    10: 'fewer than two event numbers are left',
+}
+KINDS = {
+    START: 'START', PHASE: 'PHASE', LONG: 'LONG', DEFECT: 'DEFECT', MISSED: 'MISSED', SILENCE: 'SILENCE',
+    CHECK: 'CHECK', INTERRUPT: 'INTERRUPT', GAP: 'GAP',
+}
+PHASES = ('screening', 'sampling level 0', 'sampling level 1', 'sampling level 2')
+PLACES = ('in screening', 'in sampling')
+ORDERS = ('pass', 'inspect')
+NO_UNIT = ' ' * 9
+COLUMNS = f'{"event":<9}  {"number":>9}  {"unit":>9}  what it says\n'
+NOTE = f'{"":>9}  ! {{}}\n'  # beneath a row: what is wrong with it
+SHOWN = 5
+LONGEST_QUOTE = 50
+
+
+# ---- Words for numbers
+
+def counted(count, noun):
+    return f'{count:,} {noun}' if count == 1 else f'{count:,} {noun}s'
+
+
+def span(first, last):
+    return f'{first:,}' if first == last else f'{first:,} to {last:,}'
+
+
+def few(parts):
+    """A list to be read: the first few, and how many more there are."""
+    more = len(parts) - SHOWN
+    return ', '.join(parts[:SHOWN]) + (f' and {more:,} more' if more > 0 else '')
+
+
+def spans(ranges):
+    return few([span(first, last) for first, last in ranges])
+
+
+# ---- Words for an entry of the journal
+
+def named(names, value):
+    return names[value] if value < len(names) else f'value {value:,}'
+
+
+def without_value(words, value):
+    return words if value == 0 else f'value {value:,}'
+
+
+SAYING = {
+    START: lambda unit, value: f'clearance number {value:,}',
+    PHASE: lambda unit, value: named(PHASES, value),
+    LONG: lambda unit, value: f'{counted(value, "unit")} screened',
+    DEFECT: lambda unit, value: named(PLACES, value),
+    MISSED: lambda unit, value: f'{counted(value, "unit")} not seen: {span(unit, unit + value - 1)}' if value else 'value 0',
+    SILENCE: lambda unit, value: f'{counted(value, "tick")} in a row with no unit',
+    CHECK: lambda unit, value: without_value('a defect found in a screened unit', value),
+    INTERRUPT: lambda unit, value: without_value('screening starts anew', value),
+}
+
+
+def entry(kind, number, unit, value):
+    """The columns of an event or of a marker: its name, its number, its unit, and what it says."""
+    if kind == GAP:
+        said = f'{counted(value, "event")} dropped: {span(number, number + value - 1)}' if value else 'value 0'
+    elif kind in SAYING:
+        said = SAYING[kind](unit, value)
+    else:
+        return f'kind {kind:<4}  {number:>9,}  {unit:>9,}  value {value:,}'
+    seen = f'{unit:>9,}' if unit else NO_UNIT
+    return f'{KINDS[kind]:<9}  {number:>9,}  {seen}  {said}'
+
+
+def quoted(line):
+    """A line as text that does no harm to a terminal, cut where it is long."""
+    text = line.decode('ascii', 'backslashreplace')
+    return repr(text[:LONGEST_QUOTE]) + (' ..' if len(text) > LONGEST_QUOTE else '')
+
+
+# ---- Reading
+
+def answer(line):
+    """The five numbers of an answer line, or None where it is none."""
+    return NUMBERS.unpack(bytes.fromhex(line.decode())) if LINE.fullmatch(line) else None
+
+
+def all_answers(text):
+    """Whether text is answer lines and nothing else."""
+    return ANSWERS.fullmatch(text) is not None
+
+
+def ends_in_cr_lf(text):
+    """Whether every line feed stands behind a carriage return, which is how some editors write a file."""
+    feeds = text.count(b'\n')
+    return feeds > 0 and text.count(b'\r\n') == feeds

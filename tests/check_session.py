@@ -1,0 +1,643 @@
+"""The commands in bin/: what bin/session says of sessions, and how all three fail.
+
+What it says is held to the model, which knows the phase of each unit and what is left in the queue. How it fails is
+tried in a scratch repository with a kit of shell scripts, so that nothing is proved and nothing real is broken.
+"""
+
+import fcntl
+import os
+import platform
+import re
+import shutil
+import signal
+import subprocess
+import sys
+import tempfile
+import time
+from pathlib import Path
+
+import model
+import programs
+from check_stored import FOLDER
+from drive import Driver
+from programs import ROOT
+
+sys.path.insert(0, str(ROOT / 'bin'))
+
+from lib import calls, phases, summary
+from lib import words as in_words
+from lib.session import Session
+
+COMMANDS = ('session', 'journal', 'run')
+NOT_PASSED_ON = ('RECORDER_ROOT', 'SECOND_ROOT', 'PYTHONUNBUFFERED')  # each would change what is tried
+PROVING = r'''bin/session: target/bin/recorder is not built yet: .* the prover's log is target/log/bin-session\.log
+bin/session: proving base, 1 of 2 \.\. proved in \d+ s
+bin/session: proving recorder, 2 of 2, about 30 s \.\. proved in \d+ s
+'''
+PATIENCE = 30
+EXAMPLE = '''\
+    frame  call and answer         event         number       unit  what it says
+        1  open CSP-1 n 2 i 2 S 3 seed 0x0
+        2  unit 1: inspect
+        3  result: conforming
+        4  unit 2: inspect
+        5  result: conforming
+        6  unit 3: inspect
+        7  result: conforming
+        8  unit 4: pass
+        9  unit 6: inspect, 1 unit not seen: 5
+       10  take                    START              1             clearance number 2
+       11  take                    PHASE              2          2  sampling level 0
+       12  take                    MISSED             3          5  1 unit not seen: 5
+       13  take                    PHASE              4          6  screening
+       14  take: nothing to tell
+
+Summary
+  plan       CSP-1 n 2 i 2 S 3 seed 0x0
+  frames     14: open 1, unit 5, result 3, take 5; none refused
+  units      6: 3 conforming, 0 defective, 1 passed, 1 missed, 1 owed a result
+  events     4 told: START 1, PHASE 2, MISSED 1
+  phases     1 to 2  screening
+             3 to 4  sampling level 0
+             5       missed
+             6       screening
+             [##00.#]
+             one sign a unit: # screening, 0 1 2 sampling level, . a missed stretch, ? not told
+Every event from 1 to 4 was taken and none is missing.
+'''
+CASE_9 = '''\
+Summary
+  plan       CSP-1 n 2 i 1 S 1 seed 0x0
+  frames     21: open 1, tick 10, take 10; none refused
+  units      none has come
+  events     8 told: SILENCE 8; 3 dropped
+  dropped    1 to 3: the first events, before SILENCE 4 (no unit yet)
+Events 1 to 3 were dropped, and the marker says so; 4 to 11 were taken.
+'''
+# A row that a stored session must have.
+ROWS = {
+    'ill-formed-after-open': "        8  ill-formed frame: refused 9  '09'",
+    'last-line-without-line-feed': "        3  ill-formed frame: refused 9  '06' with no line feed",
+    'before-open': '        6  result conforming: refused 2, no station is open',
+    'result-owed': '       12  result 2: refused 9, a result neither 0 nor 1',
+    'open-again': 'refused 9, a second open',
+    'plans-out-of-range': 'refused 3, a plan number is out of range',
+    'table-absent': 'refused 3, the table has no such entry',
+    'table-v-with-seed': '  plan       CSP-T letter K AQL 10.0 seed 0x12345678; START tells i 23',
+    'table-iii-a-4': '  plan       CSP-F letter H AQL 0.04 N 70,001',
+    'unit-numbers': 'refused 7, the unit number is above the limit',
+    'finds-refused': 'refused 8, not in screening, or nothing is left to recall',
+    'case-4-levels': 'sampling level 2',
+    'markers-between-takes': '             7 to 26: after SILENCE 6 (no unit yet), before SILENCE 27 (no unit yet)',
+    'csp-t-drops-the-block': f'             [{"0" * 7}{"1" * 14}{"2" * 75}]',
+    'jump-in-sampling': '             [#011.#00.#]',
+    'overflow-at-the-edge': 'Event 3 was dropped, and the marker says so; 1 to 2, 4 to 19 were taken.',
+}
+# What the last line says of a session of an open, two ticks and a unit, and then these calls.
+VERDICTS = {
+    (): 'Nothing was taken: 3 events or more are untold. Take (07) until nothing is told.',
+    ('take',):
+        'Event 1: taken, and none is missing. Entries are left in the queue: 2 events or more are untold. '
+        'Take on until nothing is told.',
+    ('take',) * 3:
+        'Events 1 to 3: taken, and none is missing. No take came back empty, so more may be left: take on until nothing is told.',
+    ('take',) * 4: 'Every event from 1 to 3 was taken and none is missing.',
+    (*('take',) * 4, 'good'):
+        'Events 1 to 3: taken, and none is missing. Calls came after the last take that came back empty, so more may be left: '
+        'take on until nothing is told.',
+    (*('take',) * 4, 'bad'):
+        'Events 1 to 3: taken, and none is missing. Entries are left in the queue: 1 event or more are untold. '
+        'Take on until nothing is told.',
+}
+
+
+def check(report, pair, options):
+    stored_sessions(report)
+    verdicts(report)
+    heard = random_sessions(report, options)
+    if programs.RECORDER in pair:
+        by_recorder(report)
+    with tempfile.TemporaryDirectory() as folder:
+        os.chmod(folder, 0o755)
+        ways = in_scratch(report, Path(folder))
+    return (f'every stored session, {len(VERDICTS)} verdicts, {heard:,} random sessions against the model, '
+            f'{ways} checks of how the commands are called and how they fail')
+
+
+# ---- What it says, held to the model
+
+def heard_of(text, answers):
+    """The session that bin/session makes of frames and answers, and all that it prints."""
+    session = Session()
+    lines = [in_words.answer(line + b'\n') for line in answers.split(b'\n')[:-1]]
+    frames = calls.read_frames(text)
+    assert len(frames) == len(lines)
+    rows = [session.hear(at, code, said, answer) for at, ((code, said), answer) in enumerate(zip(frames, lines), 1)]
+    return session, ''.join(rows) + '\n'.join(summary.lines(session))
+
+
+def stored_sessions(report):
+    """Every stored session is one that a station answers, and some have a row that shows their point."""
+    for path in sorted(FOLDER.glob('*.in')):
+        session, said = heard_of(path.read_bytes(), path.with_suffix('.out').read_bytes())
+        report.check(session.journal.sound(), f'bin/session calls sessions/{path.name} impossible:\n{said[-400:]}')
+        row = ROWS.get(path.stem, '')
+        report.check(row in said, f'bin/session has no such row for sessions/{path.name}: {row}')
+        widest = max(map(len, said.splitlines()))
+        report.check(widest <= 120, f'bin/session writes {widest} columns for sessions/{path.name}')
+
+
+def verdicts(report):
+    for then, verdict in VERDICTS.items():
+        driver = Driver(0)
+        driver.open(model.CSP_1, 2, 5)
+        driver.tick(2)
+        driver.unit()
+        for call in then:
+            {'take': driver.take, 'good': lambda: driver.result(0), 'bad': lambda: driver.result(1)}[call]()
+        said = heard_of(driver.text(), driver.expected())[1].splitlines()[-1]
+        report.check(said == verdict, f'bin/session after {then} ends: {said}')
+
+
+class Witness(Driver):
+    """A random session that writes down the phase that each unit was handled in."""
+
+    def __init__(self, seed):
+        super().__init__(seed)
+        self.handled = {}
+
+    def line(self, text):
+        last = self.station.last if self.station else 0
+        answer = super().line(text)
+        if self.station and self.station.last > last:
+            level = 1 + self.station.level if self.station.phase else 0
+            self.handled.update({unit: phases.NOT_SEEN for unit in range(last + 1, self.station.last)})
+            self.handled[self.station.last] = in_words.PHASES[level]
+        return answer
+
+
+def random_sessions(report, options):
+    """The tallies are the model's, a phase that is told is right, and a session that was taken to its end tells all."""
+    count = max(20, options.count // 15)
+    told = caught = 0
+    for at in range(count):
+        witness = Witness(f'{options.seed}-session-{at}')
+        witness.near_the_limit = lambda: None  # a million missed units make a slow witness
+        text = witness.drive()
+        session, said = heard_of(text, witness.expected_for(text))
+        report.check(session.journal.sound(), f'bin/session calls random session {at} impossible: {said.splitlines()[-1]}')
+        told += against_model(report, at, witness, session, said.splitlines()[-1])
+        caught += one_wrong_answer(report, at, witness, text)
+    report.check(told > 0, 'no random session told every phase')
+    report.check(caught > count * 2 // 3, f'of {count} sessions with one wrong answer {caught} are caught')
+    return count
+
+
+def one_wrong_answer(report, at, witness, text):
+    """A session with one answer changed is still told to its end; whether the change was found."""
+    answers = list(witness.answers)
+    chosen = witness.random
+    place, word = chosen.randrange(len(answers)), chosen.randrange(5)
+    change = chosen.choice((0, 1, 2, 3, 4, 5, 6, 7, 8, 9, 10, 11, 2 ** 8 - 1 if word < 2 else 2 ** 32 - 1))
+    answers[place] = (*answers[place][:word], change, *answers[place][word + 1:])
+    session, said = heard_of(b''.join(line + b'\n' for line in witness.lines), b''.join(map(model.written, answers)))
+    report.check(said.splitlines()[-1].endswith('.'), f'random session {at} with a wrong answer has no verdict')
+    return answers[place] != witness.answers[place] and not session.journal.sound()
+
+
+def against_model(report, at, witness, session, verdict):
+    """Whether a session has all phases told; what it says is held to the witness."""
+    station, tally = witness.station, session.tally
+    counts = (tally.conforming, tally.defective, tally.passed, tally.unseen(), tally.owed, tally.last)
+    known = (station.conforming, station.defective, station.passed, station.missed, station.owed, station.last)
+    report.check(counts == known, f'random session {at} has the tallies {counts}, and the model {known}')
+    labels = {unit: label for first, last, label in session.stretches() for unit in range(first, last + 1)}
+    wrong = [unit for unit in witness.handled if labels.get(unit) not in (phases.NOT_TOLD, witness.handled[unit])]
+    report.check(len(labels) == tally.last and not wrong, f'random session {at} has the wrong phase for unit {wrong[:1]}')
+    whole = station.told == station.next
+    promised = verdict.startswith('Every event from 1') or verdict.endswith('were taken.')
+    report.check(whole or not promised, f'random session {at} is not taken to its end, and it says: {verdict}')
+    said = f'random session {at} is taken to its end, and it says: {verdict}'
+    report.check(not whole or 'Entries are left' not in verdict, said)
+    every = promised and not session.gaps
+    untold = every and phases.NOT_TOLD in labels.values()
+    report.check(not untold, f'random session {at} took every event and leaves a phase untold')
+    return every
+
+
+# ---- With the recorder
+
+def command(name, *options, **more):
+    return subprocess.run([sys.executable, str(ROOT / 'bin' / name), *options], capture_output=True, **more)
+
+
+def by_recorder(report):
+    """The recorder itself, from the example and from standard input; the first run may have to ask rt about it."""
+    first = command('session', '--summary')
+    report.check(first.returncode == 0, f'bin/session does not run the recorder: {first.stderr.decode()}')
+    expect(report, 'the example', command('session'), 0, EXAMPLE)
+    expect(report, 'case 9', command('session', '--summary', str(FOLDER / 'case-9-ten-ticks.in')), 0, CASE_9)
+    rows = EXAMPLE.splitlines(keepends=True)
+    events = ''.join([rows[0], *rows[10:14], *rows[15:]])
+    text = (FOLDER / 'example.in').read_bytes()
+    expect(report, 'standard input', command('session', '--events', '-', input=text), 0, events)
+
+
+def expect(report, name, done, status, said):
+    """The status and all of standard output, and not a word on standard error."""
+    good = done.returncode == status and done.stdout.decode() == said and not done.stderr
+    report.check(good, f'{name} ends with {done.returncode}:\n{done.stdout.decode()}{done.stderr.decode()}')
+
+
+# ---- A scratch repository and a kit of shell scripts
+
+RT = '''\
+#!/bin/sh
+kit='{kit}'
+[ -f "$kit/broken" ] && {{ echo 'rt: no toolchain' >&2; exit 2; }}
+case $1 in
+doc) echo "$kit/docs/START-HERE.md" ;;
+check)
+    echo "$2" >>"$kit/asked"
+    [ -f "$kit/slow" ] && sleep 0.5
+    [ -f "$kit/hang" ] && {{ sleep 300 & echo $! >"$kit/child"; wait; }}
+    [ -f "$kit/fail" ] && {{ echo "rt: $2 NOT PROVED"; exit 1; }}
+    [ -f "$kit/full" ] && {{ echo 'rattle: cannot write: No space left on device'; exit 2; }}
+    if [ "$2" = recorder ] && ! cmp -s crates/recorder/src/main.rt target/stamp/recorder; then
+        mkdir -p target/bin target/stamp
+        cp "$kit/recorder" target/bin/recorder && cp crates/recorder/src/main.rt target/stamp/recorder
+    fi
+    echo "rt: $2 proved" ;;
+esac
+'''
+LOADER = '#!/bin/sh\nshift 2\nexec "$@"\n'
+STORED = 'cat >/dev/null; cat "$(dirname "$0")/../../sessions/example.out"'  # a recorder for one session
+# Runs a command as if nothing could be written: a superuser may write whatever the modes say.
+READ_ONLY = '''\
+import os, runpy, sys
+access = os.access
+os.access = lambda path, mode, **more: mode != os.W_OK and access(path, mode, **more)
+sys.argv = sys.argv[1:]
+runpy.run_path(sys.argv[0], run_name='__main__')
+'''
+
+
+class Scratch:
+    """A repository with two crates and a recorder that gives stored answers, in a folder whose name has a space."""
+
+    def __init__(self, folder):
+        self.root, self.kit = folder / 'a repository', folder / 'a kit'
+        for part in ('bin', 'sessions'):
+            shutil.copytree(ROOT / part, self.root / part, ignore=shutil.ignore_patterns('__pycache__'))
+        self.write(self.root / 'tests' / 'programs.py', (ROOT / 'tests' / 'programs.py').read_text())
+        self.write(self.root / 'crates.txt', '# two crates\nbase:\nrecorder: base io\n')
+        self.write(self.root / 'crates' / 'base' / 'src' / 'lib.rt', 'one')
+        self.write(self.root / 'crates' / 'recorder' / 'src' / 'main.rt', 'one')
+        self.write(self.kit / 'docs' / 'START-HERE.md', 'a page')
+        self.write(self.kit / 'KIT-ID', 'a kit')
+        self.write(self.kit / 'on' / platform.machine() / 'toolchain' / 'lib' / 'ld-linux-x86-64.so.2', LOADER, 0o755)
+        self.write(self.kit / 'path' / 'rt', RT.format(kit=self.kit), 0o755)
+        self.recorder(STORED)
+        self.patience('1000')
+
+    def patience(self, seconds):
+        """How long rt may take with no line shown: a busy machine must not make a difference here."""
+        path = self.root / 'bin' / 'lib' / 'proving.py'
+        text, count = re.subn(r'(?m)^AT_ONCE = \S+', f'AT_ONCE = {seconds}', path.read_text())
+        assert count == 1
+        path.write_text(text)
+
+    def write(self, path, text, mode=0o644):
+        path.parent.mkdir(parents=True, exist_ok=True)
+        path.write_text(text)
+        path.chmod(mode)
+
+    def recorder(self, script):
+        """What rt makes from now on."""
+        self.write(self.kit / 'recorder', f'#!/bin/sh\n{script}\n', 0o755)
+
+    def remake(self, script):
+        """Has the recorder made of this script."""
+        self.recorder(script)
+        shutil.rmtree(self.root / 'target', ignore_errors=True)
+
+    def environment(self, **more):
+        known = {name: value for name, value in os.environ.items() if name not in NOT_PASSED_ON}
+        return {**known, 'PATH': f'{self.kit / "path"}:{os.environ["PATH"]}', **more}
+
+    def run(self, name, *options, **more):
+        words = [sys.executable, str(self.root / 'bin' / name), *map(str, options)]
+        return subprocess.run(words, **{'capture_output': True, 'env': self.environment(), 'timeout': PATIENCE, **more})
+
+    def asked(self):
+        """The crates that rt was asked to check since the last time."""
+        path = self.kit / 'asked'
+        lines = path.read_text().split() if path.exists() else []
+        path.unlink(missing_ok=True)
+        return lines
+
+    def flag(self, name, on=True):
+        path = self.kit / name
+        path.touch() if on else path.unlink()
+
+
+def in_scratch(report, folder):
+    """Each way in its turn, after the one that works; how many there are."""
+    scratch = Scratch(folder)
+    done = scratch.run('session')
+    works = done.returncode == 0 and done.stdout.decode() == EXAMPLE and not done.stderr
+    report.check(works, f'the scratch repository does not work: {done.stdout.decode()}{done.stderr.decode()}')
+    before = report.passed + report.failed
+    for way in (files, ages, recorders, kits, calls_from_anywhere, outputs, read_only, proofs, interrupted):
+        way(report, scratch)
+    return report.passed + report.failed - before
+
+
+def fails(report, name, done, status, *said):
+    """A status, nothing on standard output, and one line on standard error with these words in it."""
+    error = done.stderr.decode()
+    good = done.returncode == status and not done.stdout and error.count('\n') == 1 and all(text in error for text in said)
+    report.check(good, f'{name}: it ends with {done.returncode}:\n{done.stdout.decode()[:400]}{error}')
+
+
+def same(report, name, done, out):
+    """The bytes on standard output, and not a word on standard error."""
+    report.check((done.returncode, done.stdout, done.stderr) == (0, out, b''), f'{name}: {done.returncode}: {done.stderr!r}')
+
+
+def files(report, scratch):
+    """What is no file of frames is refused, and nothing is run."""
+    folder, crlf, answers = scratch.root / 'sessions', scratch.root / 'crlf.in', scratch.root / 'sessions' / 'example.out'
+    example = (folder / 'example.in').read_bytes()
+    crlf.write_bytes(example.replace(b'\n', b'\r\n'))
+    scratch.asked()
+    (scratch.root / 'target' / 'seal' / 'recorder').unlink()
+    fails(report, 'a folder', scratch.run('session', folder), 2, 'is a folder')
+    fails(report, 'no file', scratch.run('session', folder / 'none.in'), 2, 'cannot read', 'No such file')
+    fails(report, 'an empty file', scratch.run('session', folder / 'no-input.in'), 2, 'is empty')
+    fails(report, 'CR LF', scratch.run('session', crlf), 2, 'CR LF', 'tr -d')
+    fails(report, 'answers', scratch.run('session', answers), 2, 'bin/journal reads answers')
+    fails(report, 'torn answers', scratch.run('session', '-', input=answers.read_bytes()[:-9]), 2, 'bin/journal reads answers')
+    fails(report, 'a closed input', scratch.run('session', '-', preexec_fn=lambda: os.close(0)), 2, 'standard input is closed')
+    report.check(scratch.asked() == [], 'bin/session asks rt before it has looked at its file')
+    one_return = {b'07\r\n06\n': b"  ill-formed frame: refused 9  '07\\r'\n", b'07\r': b"  '07\\r' with no line feed\n"}
+    for text, row in one_return.items():
+        scratch.remake(f'cat >/dev/null; printf "%s" "{model.run(text).decode()}"')
+        done = scratch.run('session', '-', input=text)
+        report.check(done.returncode == 0 and row in done.stdout, f'a single CR: {done.stdout!r}{done.stderr!r}')
+    scratch.remake(STORED)
+
+
+def ages(report, scratch):
+    """A recorder is run at once while it is what its sources make, and is made anew as soon as it may not be."""
+    scratch.asked()
+    source, made = scratch.root / 'crates' / 'base' / 'src' / 'lib.rt', scratch.root / 'target' / 'bin' / 'recorder'
+
+    def runs(name, asked):
+        done = scratch.run('session')
+        asks = scratch.asked()
+        ran = done.returncode == 0 and done.stdout.decode() == EXAMPLE
+        report.check(ran and asks == asked, f'{name}: rt was asked {asks}: {done.stderr!r}')
+
+    runs('no recorder', ['base', 'recorder'])
+    runs('a recorder that is sealed', [])
+    source.touch()
+    os.utime(source, (time.time() + 100, time.time() + 100))
+    runs('a source with a new time and the same text', [])
+    source.write_text('two')
+    os.utime(source, (1, 1))
+    runs('a source with an old time and another text', ['base', 'recorder'])
+    made.write_text('#!/bin/sh\nexit 3\n')
+    runs('a recorder that was written over', ['base', 'recorder', 'recorder'])
+    old = made.stat().st_mtime - 1_000
+    made.write_text('#!/bin/sh\nexit 3\n')
+    os.utime(made, (old, old))
+    runs('an old recorder put back', ['base', 'recorder', 'recorder'])
+    made.unlink()
+    runs('a recorder that is gone, where rt finds its sources unchanged', ['base', 'recorder', 'recorder'])
+    run_refuses(report, scratch, source)
+
+
+def run_refuses(report, scratch, source):
+    """bin/run runs no program that is older than its sources, unless it is told to."""
+    frames = (scratch.root / 'sessions' / 'example.in').read_bytes()
+    answers = (scratch.root / 'sessions' / 'example.out').read_bytes()
+    for name in ('a sealed recorder', 'no seal, and no newer source'):
+        same(report, f'bin/run with {name}', scratch.run('run', 'recorder', input=frames), answers)
+        (scratch.root / 'target' / 'seal' / 'recorder').unlink(missing_ok=True)
+    os.utime(source, (time.time() + 100, time.time() + 100))
+    done = scratch.run('run', 'recorder', input=frames)
+    fails(report, 'bin/run and a newer source', done, 2, 'is older than crates/base/src/lib.rt', '--prove')
+    for option in ('--as-it-is', '--prove'):
+        same(report, f'bin/run {option}', scratch.run('run', option, 'recorder', input=frames), answers)
+    source.write_text('three')
+    os.utime(source, (1, 1))
+    fails(report, 'bin/run and another source', scratch.run('run', 'recorder', input=frames), 2, 'made of other sources')
+    fails(report, 'bin/run and no program', scratch.run('run', 'none'), 2, 'is not built')
+
+
+def recorders(report, scratch):
+    """A recorder that fails, dies, or gives too few or too many answers."""
+    answers, line = STORED, '00 00 00000000 00000000 00000000'
+    for name, script, status, *said in (
+        ('a status', f'{answers}; echo oh dear >&2; exit 7', 7, 'ended with status 7', '14 of 14', 'oh dear'),
+        ('a signal', f'{answers} | head -n 3; kill -KILL $$', 128 + signal.SIGKILL, 'signal 9', '3 of 14 answers'),
+        ('too few answers', f'{answers} | head -n 13', 1, '13 answers to 14 frames'),
+        ('too many answers', f'{answers}; echo "{line}"', 1, '15 answers to 14 frames'),
+        ('no answers', 'cat >/dev/null', 1, '0 answers to 14 frames'),
+        ('a torn answer', f'{answers} | head -n 13; printf "{line}"', 1, '13 answers to 14 frames'),
+        ('a line that is no answer', f'{answers} | sed "3s/.*/hello/"', 1, 'answer to frame 3', 'hello'),
+    ):
+        scratch.remake(script)
+        fails(report, f'a recorder with {name}', scratch.run('session'), status, *said)
+    for name, change, said in (
+        ('an order to a result', '3s/0$/1/', 'only a unit is given an order'),
+        ('an event to a unit', '2s/^00 00/00 06/', 'only a take tells an event'),
+        ('a refusal that a take never gets', '14s/^00/04/', 'no take is refused with 4'),
+        ('a second START', '11s/.*/00 01 00000002 00000000 00000002/', 'a second START'),
+        ('an event that cannot be', '11s/1$/2/', 'no step leads'),
+        ('a lost event', '11s/00000002/00000003/', 'missing before this: 2'),
+        ('a refusal that is none', '2s/^00/0B/', 'no unit is refused with 11'),
+        ('a journal that is kept back', f'10s/.*/{line}/', '2 events or more are untold'),
+        ('another plan than was opened', '10s/2$/3/', 'the calls raise START with unit 0 here'),
+        ('an event that no call raised', '11s/.*/00 06 00000002 00000001 00000001/', 'the calls raise MISSED with unit 5 here'),
+        ('an event of a kind that is none', '10s/^00 01/00 0A/', 'there is no kind 10'),
+        ('a marker that names nothing', '10s/.*/00 09 00000001 00000000 00000000/', 'names one number or more'),
+        ('a unit that has not come', '13s/00000006/00000007/', 'calls for unit 6'),
+        ('an order that is due no more', '14s/.*/09 00 00000000 00000000 00000000/', 'no take is refused with 9'),
+        ('a refusal that is not due', '4s/.*/04 00 00000000 00000000 00000000/', 'no refusal is due here'),
+        ('an event more at the end', '14s/.*/00 06 00000005 00000006 00000001/', 'no call has raised it'),
+    ):
+        scratch.remake(f'{answers} | sed "{change}"')
+        done = scratch.run('session')
+        noted = done.returncode == 1 and said in done.stdout.decode() and not done.stderr
+        report.check(noted, f'{name}: {done.returncode}:\n{done.stdout.decode()}')
+    scratch.remake(STORED)
+
+
+def kits(report, scratch):
+    """No rt, an rt that does not work, and a kit that has no loader, though a recorder is there."""
+    report.check(scratch.run('session').returncode == 0, 'the scratch recorder is not there')
+    none = scratch.environment(PATH=str(scratch.root))
+    for name in ('session', 'run'):
+        options = ('recorder',) if name == 'run' else ()
+        fails(report, f'bin/{name} with no rt', scratch.run(name, *options, env=none), 2, 'rt is not on the path', 'Rattle kit')
+        scratch.flag('broken')
+        fails(report, f'bin/{name} with a broken kit', scratch.run(name, *options), 2, 'Rattle kit', 'no toolchain')
+        scratch.flag('broken', on=False)
+        loader = next(scratch.kit.rglob('ld-linux-x86-64.so.2'))
+        loader.rename(loader.with_name('gone'))
+        fails(report, f'bin/{name} with no loader', scratch.run(name, *options), 2, 'no loader')
+        loader.with_name('gone').rename(loader)
+
+
+def calls_from_anywhere(report, scratch):
+    """Help; a symbolic link; another folder; CDPATH."""
+    elsewhere = scratch.kit / 'else where'
+    elsewhere.mkdir()
+    frames = (scratch.root / 'sessions' / 'example.in').read_bytes()
+    for name in COMMANDS:
+        for option in ('-h', '--help'):
+            done = scratch.run(name, option)
+            usage = done.stdout.startswith(f'usage: bin/{name} '.encode()) and b'Exit status' in done.stdout
+            helps = done.returncode == 0 and usage and not done.stderr
+            report.check(helps, f'bin/{name} {option}: {done.stdout!r}{done.stderr!r}')
+        done = scratch.run(name, '--no-such-option')
+        report.check(done.returncode == 2 and b'usage: ' in done.stderr and not done.stdout, f'bin/{name} takes any option')
+        path, link = os.path.relpath(scratch.root / 'bin' / name, elsewhere), elsewhere / name
+        link.symlink_to(path)
+        options = {'session': ['-'], 'journal': [], 'run': ['recorder']}[name]
+        straight = scratch.run(name, *options, input=frames)
+        where = {'cwd': elsewhere, 'env': scratch.environment(CDPATH=f'{elsewhere}:{scratch.root}:/')}
+        for way in (f'./{name}', path):
+            done = subprocess.run([way, *options], input=frames, capture_output=True, timeout=PATIENCE, **where)
+            alike = (done.returncode, done.stdout, done.stderr) == (straight.returncode, straight.stdout, straight.stderr)
+            report.check(alike and done.stdout, f'{way} in another folder: {done.returncode}: {done.stderr!r}')
+
+
+def outputs(report, scratch):
+    """A full disk and a closed output are said in one line; a reader that went away ends it without a word."""
+    long = scratch.root / 'long.out'
+    long.write_bytes(model.written((0, 0, 0, 0, 1)) * 20_000)
+    for name, options in {'session': (), 'journal': (long,), 'run': ('--help',)}.items():
+        # a write fails at once, or when what was kept is written in the end
+        for option, unbuffered in ((options, ''), (options, '1'), (('--help',), '')):
+            environment = scratch.environment(PYTHONUNBUFFERED=unbuffered)
+            with open('/dev/full', 'wb') as full:
+                done = scratch.run(name, *option, capture_output=False, stdout=full, stderr=subprocess.PIPE, env=environment)
+            said = f'bin/{name}: cannot write the output: No space left on device\n'.encode()
+            report.check((done.returncode, done.stderr) == (2, said), f'bin/{name} {option} on a full disk: {done.stderr!r}')
+        closed_outputs(report, scratch, name, options)
+
+
+def closed_outputs(report, scratch, name, options):
+    done = scratch.run(name, *options, capture_output=False, stderr=subprocess.PIPE, preexec_fn=lambda: os.close(1))
+    said = done.returncode == 2 and b'output is closed' in done.stderr
+    report.check(said, f'bin/{name} with a closed output: {done.returncode}: {done.stderr!r}')
+    reading, writing = os.pipe()
+    os.close(reading)
+    done = scratch.run(name, *options, capture_output=False, stdout=writing, stderr=subprocess.PIPE)
+    os.close(writing)
+    quiet = done.returncode == -signal.SIGPIPE and not done.stderr
+    report.check(quiet, f'bin/{name} with no reader: {done.returncode}: {done.stderr!r}')
+
+
+def read_only(report, scratch):
+    """A checkout that cannot be written runs a recorder that is there, and says why it cannot make one."""
+    scratch.run('session')
+    (scratch.root / 'target' / 'seal' / 'recorder').unlink()
+    words = [sys.executable, '-c', READ_ONLY, str(scratch.root / 'bin' / 'session')]
+
+    def run():
+        return subprocess.run(words, env=scratch.environment(), capture_output=True, timeout=PATIENCE)
+
+    done = run()
+    ran = done.returncode == 0 and done.stdout.decode() == EXAMPLE
+    ran = ran and done.stderr.count(b'\n') == 1 and b'cannot be written' in done.stderr
+    report.check(ran, f'bin/session on a read-only checkout: {done.returncode}: {done.stderr!r}')
+    os.utime(scratch.root / 'target' / 'bin' / 'recorder', (1, 1))
+    fails(report, 'a read-only checkout with an old recorder', run(), 2, 'is older than', 'cannot be written')
+    shutil.rmtree(scratch.root / 'target')
+    fails(report, 'a read-only checkout with no recorder', run(), 2, 'is not built yet', 'cannot be written')
+    (scratch.root / 'target').write_text('in the way')
+    fails(report, 'a target that is no folder', scratch.run('session'), 2, 'target')
+    (scratch.root / 'target').unlink()
+
+
+def proofs(report, scratch):
+    """A line for each crate that takes its time; a failed proof shows what rt said last."""
+    scratch.flag('slow')
+    scratch.patience('0')
+    done = scratch.run('session')
+    shown = re.fullmatch(PROVING, done.stderr.decode()) and done.stdout.decode() == EXAMPLE
+    report.check(shown, f'bin/session shows of its proofs:\n{done.stderr.decode()}')
+    logged = (scratch.root / 'target' / 'log' / 'bin-session.log').read_text()
+    report.check(logged == 'rt: base proved\nrt: recorder proved\n', f'the log of the proofs has: {logged!r}')
+    scratch.flag('slow', on=False)
+    scratch.patience('1000')
+    scratch.flag('fail')
+    (scratch.root / 'crates' / 'base' / 'src' / 'lib.rt').write_text('wrong')
+    done = scratch.run('session')
+    said = done.stderr.decode()
+    failed = '    rt: base NOT PROVED\n' in said and 'base was not proved: rt ended with 1' in said
+    report.check(failed and done.returncode == 1 and not done.stdout, f'bin/session on a failed proof: {done.returncode}: {said}')
+    scratch.flag('fail', on=False)
+    scratch.flag('full')
+    fails(report, 'a disk that fills up', scratch.run('session'), 2, 'base was not proved', 'is full')
+    scratch.flag('full', on=False)
+    with open(scratch.root / 'target' / 'log' / 'bin-session.log', 'ab') as log:
+        fcntl.flock(log, fcntl.LOCK_EX)
+        fails(report, 'two provers', scratch.run('session'), 2, 'another command is proving here')
+    report.check(scratch.run('session').returncode == 0, 'bin/session does not mend itself after a failed proof')
+
+
+def interrupted(report, scratch):
+    """Ctrl-C, or a plea to end, ends all that was started too."""
+    for number in (signal.SIGINT, signal.SIGTERM):
+        scratch.flag('hang')
+        shutil.rmtree(scratch.root / 'target')
+        (scratch.kit / 'child').unlink(missing_ok=True)
+        words = [sys.executable, str(scratch.root / 'bin' / 'session')]
+        process = subprocess.Popen(words, env=scratch.environment(), stdout=subprocess.PIPE, stderr=subprocess.PIPE,
+                                   preexec_fn=lambda: signal.signal(signal.SIGINT, signal.SIG_DFL))
+        child = child_of(scratch)
+        report.check(child is not None and lives(child), 'the stand-in prover starts no process')
+        process.send_signal(number)
+        out, said = process.communicate(timeout=PATIENCE)
+        ended = process.returncode == 128 + number and not out and b'Traceback' not in said
+        report.check(ended, f'bin/session after signal {number}: {process.returncode}: {said!r}')
+        report.check(gone(child), f'bin/session leaves a process behind after signal {number}')
+        scratch.flag('hang', on=False)
+
+
+def child_of(scratch):
+    """The process that the stand-in prover has started, once it has."""
+    path, deadline = scratch.kit / 'child', time.monotonic() + PATIENCE
+    while time.monotonic() < deadline:
+        if path.exists() and path.read_text().endswith('\n'):
+            return int(path.read_text())
+        time.sleep(0.02)
+    return None
+
+
+def lives(process):
+    try:
+        os.kill(process, 0)
+    except ProcessLookupError:
+        return False
+    return not zombie(process)
+
+
+def zombie(process):
+    """A process that has ended and that nobody has waited for."""
+    try:
+        return Path(f'/proc/{process}/stat').read_text().rpartition(')')[2].split()[0] == 'Z'
+    except OSError:
+        return False
+
+
+def gone(process):
+    deadline = time.monotonic() + PATIENCE
+    while lives(process) and time.monotonic() < deadline:
+        time.sleep(0.02)
+    return not lives(process)
