@@ -1,0 +1,78 @@
+-- How turns follow one another. Assumes nothing.
+use mathlib.Core.Path.{_≡_, refl, sym, ap, _∙_}
+use mathlib.Core.Bool.{Bool, true, false}
+use mathlib.Core.List.{List, [], _∷_, _++_, append-nil, append-assoc}
+use mathlib.Core.Logic.{inl}
+use Prim.Native.Nat.{ℕ, _≤_}
+use native.Mathlib.Omega.{arith}
+use lib.ListN.{length, take, length-take}
+use lib.Seq.{take-all, take-take, length-take-le}
+use Rattle.rules.specs.Frames.{newSession, lastText}
+use Rattle.rules.specs.declared.Session.{Session}
+use Rattle.frames.specs.Replies.{sessionOf}
+use Rattle.recorder.specs.Course.{Course, heldMost, after, turn, turns}
+use Rattle.recorder.specs.Walks.{Walks}
+use Rattle.recorder.specs.Turns.{Hands, Turns, Stands, Ran}
+use Rattle.recorder.specs.declared.Handed.{Handed}
+use Rattle.recorder.specs.declared.Turned.{Turned}
+use Rattle.recorder.specs.declared.walk.Walked.{Walked}
+
+-- what the writes took of the answers
+pub handed-on : (w : Course) (r : Walked) (queue line out : List ℕ) (h : Handed) (read : ℕ) (ended : Bool)
+    → Walks w r queue line out → Hands (take (r .at) out) h → (ended ≡ true → read ≡ 0)
+    → Turns w
+    (record { standing = r .standing; held = r .held; read = read; ended = ended; handed = h .bytes; all = h .all })
+    queue
+    line
+    out
+handed-on w r queue line out h read ended k t none =
+    let n : length (take (r .at) out) ≡ r .at = length-take-le (r .at) out (k .room) in
+    record {
+      session = k .session;
+      most = k .most;
+      line = k .line;
+      some = sym (take-take (h .bytes) (r .at) out (omega (arith, t .some))) ∙ ap (take (h .bytes)) (k .text);
+      whole = λ e. ap (λ (i : ℕ). take i out) (t .whole e ∙ n) ∙ k .text;
+      none = none;
+    }
+
+-- one turn more
+more : (s : Session) (line : List ℕ) (parts : List (List ℕ)) (part : List ℕ)
+    → turns s line (parts ++ part ∷ [])
+    ≡ record {
+      session = turn false (turns s line parts .session) (turns s line parts .line) part .session;
+      line = take heldMost (turn false (turns s line parts .session) (turns s line parts .line) part .line);
+      text = turns s line parts .text ++ turn false (turns s line parts .session) (turns s line parts .line) part .text;
+    }
+unfolding turns
+more s line [] part = rw append-nil
+more s line (p ∷ parts) part =
+    let w = turn false s line p in
+    ap (after (w .text)) (more (w .session) (take heldMost (w .line)) parts part) ∙ rw append-assoc
+
+-- where the program stands after a turn that went on, and after the last
+module _ (parts : List (List ℕ)) (part : List ℕ) (t r : Turned) (queue line queue′ line′ out : List ℕ) (k : Stands parts t queue line) where
+  pub went-on : (ended : Bool) → ended ≡ false
+      → Turns (turn ended (sessionOf (t .standing) queue) (take (t .held) line) part) r queue′ line′ out
+      → Stands (parts ++ part ∷ []) r queue′ line′
+  went-on false e w =
+      record {
+        session = rw (more newSession [] parts part, ← k .session, ← k .line) (w .session);
+        most = w .most;
+        line = rw (more newSession [] parts part, ← k .session, ← k .line) (w .line);
+      }
+  went-on true e w = let z : _≡_ {A = ℕ} 0 1 = cc in absurd (omega arith)
+
+  pub ran : (ended : Bool) → ended ≡ true → r .ended ≡ true
+      → Turns (turn ended (sessionOf (t .standing) queue) (take (t .held) line) part) r queue′ line′ out → Ran r queue′ line′ out
+  ran true e f w =
+      record {
+        parts = parts;
+        stands = record {
+          session = w .session ∙ k .session;
+          most = w .most;
+          line = w .line ∙ take-all heldMost (take (t .held) line) (simp length-take (omega (arith, k .most))) ∙ k .line;
+        };
+        cause = inl (f, rw (← k .session, ← k .line) w);
+      }
+  ran false e f w = let z : _≡_ {A = ℕ} 0 1 = cc in absurd (omega arith)

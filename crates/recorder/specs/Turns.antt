@@ -1,0 +1,49 @@
+-- What reads and writes, a turn and a run of the program promise.
+use Prim.Native.Nat.{ℕ, _≤_, _-_, _^_}
+use mathlib.Core.Bool.{true, false}
+use mathlib.Core.Path.{_≡_}
+use mathlib.Core.List.{List, []}
+use mathlib.Core.Logic.{_⊎_}
+use lib.IntN.{ℤ, pos}
+use lib.ListN.{length, take}
+use Rattle.io.specs.Counts.{clamped}
+use Rattle.frames.specs.Replies.{sessionOf}
+use Rattle.recorder.specs.Course.{Course, heldMost, course, turn}
+use Rattle.recorder.specs.declared.Moved.{Moved}
+use Rattle.recorder.specs.declared.Handed.{Handed}
+use Rattle.recorder.specs.declared.Turned.{Turned}
+
+-- a read or a write that was lent n bytes moved as many as it answered; it is the last where it answered 0, and never where it moved any
+pub record Moves (answer : ℤ) (n : ℕ) (r : Moved) : Type 0 where
+  pub bytes : r .bytes ≡ clamped answer n
+  pub room : r .bytes ≤ n
+  pub over : answer ≡ pos 0 → r .over ≡ true
+  pub none : r .over ≡ true → r .bytes ≡ 0
+
+-- a text is handed on from its first byte on, and whole unless a write failed
+pub record Hands (text : List ℕ) (r : Handed) : Type 0 where
+  pub some : r .bytes ≤ length text
+  pub whole : r .all ≡ true → r .bytes ≡ length text
+
+-- the session and the line held after a turn are those of the course, and the bytes handed on are its text
+pub record Turns (w : Course) (r : Turned) (queue held out : List ℕ) : Type 0 where
+  pub session : sessionOf (r .standing) queue ≡ w .session
+  pub most : r .held ≤ heldMost
+  pub line : take (r .held) held ≡ take heldMost (w .line)
+  pub some : take (r .handed) out ≡ take (r .handed) (w .text)
+  pub whole : r .all ≡ true → take (r .handed) out ≡ w .text
+  pub none : r .ended ≡ true → r .read ≡ 0
+
+-- where the program stands after its reads brought some parts
+pub record Stands (parts : List (List ℕ)) (r : Turned) (queue held : List ℕ) : Type 0 where
+  pub session : sessionOf (r .standing) queue ≡ course parts .session
+  pub most : r .held ≤ heldMost
+  pub line : take (r .held) held ≡ course parts .line
+
+-- a run ends with the turn at the end of the input, where a write failed, or after as many reads as 64 bits count
+pub record Ran (r : Turned) (queue held out : List ℕ) : Type 0 where
+  pub parts : List (List ℕ)
+  pub stands : Stands parts r queue held
+  pub cause : ((r .ended ≡ true) × Turns (turn true (course parts .session) (course parts .line) []) r queue held out)
+      ⊎ (r .all ≡ false)
+      ⊎ (length parts ≡ 2 ^ 64 - 1)
