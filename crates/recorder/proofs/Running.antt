@@ -14,26 +14,22 @@ use Rattle.recorder.specs.Course.{Course, heldMost, after, turn, turns}
 use Rattle.recorder.specs.Walks.{Walks}
 use Rattle.recorder.specs.Turns.{Hands, Turns, Stands, Ran}
 use Rattle.recorder.specs.declared.Handed.{Handed}
+use Rattle.recorder.specs.declared.Moved.{Moved}
 use Rattle.recorder.specs.declared.Turned.{Turned}
 use Rattle.recorder.specs.declared.walk.Walked.{Walked}
 
 -- what the writes took of the answers
-pub handed-on : (w : Course) (r : Walked) (queue line out : List ℕ) (h : Handed) (read : ℕ) (ended : Bool)
-    → Walks w r queue line out → Hands (take (r .at) out) h → (ended ≡ true → read ≡ 0)
-    → Turns w
-    (record { standing = r .standing; held = r .held; read = read; ended = ended; handed = h .bytes; all = h .all })
-    queue
-    line
-    out
-handed-on w r queue line out h read ended k t none =
+pub handed-on : (w : Course) (r : Walked) (queue line out : List ℕ) (came : Moved) (h : Handed)
+    → Walks w r queue line out → Hands (take (r .at) out) h
+    → Turns w (record { standing = r .standing; held = r .held; came = came; handed = h }) queue line out
+handed-on w r queue line out came h k t =
     let n : length (take (r .at) out) ≡ r .at = length-take-le (r .at) out (k .room) in
     record {
       session = k .session;
       most = k .most;
       line = k .line;
-      some = sym (take-take (h .bytes) (r .at) out (omega (arith, t .some))) ∙ ap (take (h .bytes)) (k .text);
-      whole = λ e. ap (λ (i : ℕ). take i out) (t .whole e ∙ n) ∙ k .text;
-      none = none;
+      handed = rw (← k .text) t;
+      text = sym (take-take (h .bytes) (r .at) out (omega (arith, t .some))) ∙ ap (take (h .bytes)) (k .text);
     }
 
 -- one turn more
@@ -63,7 +59,7 @@ module _ (parts : List (List ℕ)) (part : List ℕ) (t r : Turned) (queue line 
       }
   went-on true e w = let z : _≡_ {A = ℕ} 0 1 = cc in absurd (omega arith)
 
-  pub ran : (ended : Bool) → ended ≡ true → r .ended ≡ true
+  pub ran : (ended : Bool) → ended ≡ true → r .came .over ≡ true
       → Turns (turn ended (sessionOf (t .standing) queue) (take (t .held) line) part) r queue′ line′ out → Ran r queue′ line′ out
   ran true e f w =
       record {

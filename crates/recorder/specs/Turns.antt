@@ -20,19 +20,18 @@ pub record Moves (answer : ℤ) (n : ℕ) (r : Moved) : Type 0 where
   pub over : answer ≡ pos 0 → r .over ≡ true
   pub none : r .over ≡ true → r .bytes ≡ 0
 
--- a text is handed on from its first byte on, and whole unless a write failed
+-- no more of a text is handed on than there is, and all of it unless a write failed
 pub record Hands (text : List ℕ) (r : Handed) : Type 0 where
   pub some : r .bytes ≤ length text
   pub whole : r .all ≡ true → r .bytes ≡ length text
 
--- the session and the line held after a turn are those of the course, and the bytes handed on are its text
+-- the session and the line held after a turn are those of the course, and what was handed on is its text from the first byte on
 pub record Turns (w : Course) (r : Turned) (queue held out : List ℕ) : Type 0 where
   pub session : sessionOf (r .standing) queue ≡ w .session
   pub most : r .held ≤ heldMost
   pub line : take (r .held) held ≡ take heldMost (w .line)
-  pub some : take (r .handed) out ≡ take (r .handed) (w .text)
-  pub whole : r .all ≡ true → take (r .handed) out ≡ w .text
-  pub none : r .ended ≡ true → r .read ≡ 0
+  pub handed : Hands (w .text) (r .handed)
+  pub text : take (r .handed .bytes) out ≡ take (r .handed .bytes) (w .text)
 
 -- where the program stands after its reads brought some parts
 pub record Stands (parts : List (List ℕ)) (r : Turned) (queue held : List ℕ) : Type 0 where
@@ -44,6 +43,6 @@ pub record Stands (parts : List (List ℕ)) (r : Turned) (queue held : List ℕ)
 pub record Ran (r : Turned) (queue held out : List ℕ) : Type 0 where
   pub parts : List (List ℕ)
   pub stands : Stands parts r queue held
-  pub cause : ((r .ended ≡ true) × Turns (turn true (course parts .session) (course parts .line) []) r queue held out)
-      ⊎ (r .all ≡ false)
+  pub cause : ((r .came .over ≡ true) × Turns (turn true (course parts .session) (course parts .line) []) r queue held out)
+      ⊎ (r .handed .all ≡ false)
       ⊎ (length parts ≡ 2 ^ 64 - 1)

@@ -28,15 +28,13 @@ struct Handed {
     all: bool,
 }
 
-// The run after a turn. held is how much is held of a line that has not ended; read, how much the turn's read brought; ended, whether
-// that was the end of the input; handed and all, what the writes took of the turn's text.
+// Where the program stands after a turn: held is how much is held of a line that has not ended, came what the turn's read brought,
+// handed what the writes took of the turn's text.
 struct Turned {
     standing: Standing,
     held: usize,
-    read: usize,
-    ended: bool,
-    handed: usize,
-    all: bool,
+    came: Moved,
+    handed: Handed,
 }
 
 // A call that a signal interrupted has moved nothing and is made again.
@@ -93,35 +91,34 @@ fn write_all(text: &[u8]) -> Handed
     }
 }
 
-// One read, and the answers to the lines that it ended in one write.
+// What a read brought, and the answers to the lines that it ended in one write.
 fn turn(
     standing: Standing,
     q: &mut [u32],
     held: usize,
-    chunk: &mut [u8],
+    got: isize,
+    chunk: &[u8],
     line: &mut [u8],
     out: &mut [u8],
 ) -> Turned
     requires { ⌜ (length (now line) ≡ heldMost) × (held ≤ heldMost) × (33 * length (now chunk) ≤ length (now out)) × (33 ≤ length (now out)) ⌝ }
-    ensures { λ r. ⌜ Turns (turn (r .ended) (sessionOf standing (now (q .entry))) (take held (now (line .entry))) (take (r .read) (now (chunk .exit)))) r (now (q .exit)) (now (line .exit)) (now (out .exit)) ⌝ }
+    ensures { λ r. ⌜ Moves got (length (now (chunk .entry))) (r .came) × Turns (turn (r .came .over) (sessionOf standing (now (q .entry))) (take held (now (line .entry))) (take (r .came .bytes) (now (chunk .entry)))) r (now (q .exit)) (now (line .exit)) (now (out .exit)) ⌝ }
 {
-    let got = came_to(libc::read(STDIN_FILENO, chunk), chunk);
-    let n = got.bytes;
-    let w = answered(standing, q, line, held, &chunk[0..n], got.over, out);
+    let came = came_to(got, chunk);
+    let n = came.bytes;
+    let w = answered(standing, q, line, held, &chunk[0..n], came.over, out);
     let at = w.at;
-    let given = write_all(&out[0..at]);
+    let handed = write_all(&out[0..at]);
     let s = w.standing;
     Turned {
         standing: s,
         held: w.held,
-        read: n,
-        ended: got.over,
-        handed: given.bytes,
-        all: given.all,
+        came: came,
+        handed: handed,
     }
 }
 
-// The run before its first read.
+// Before the first read.
 fn start() -> Turned
     ensures { λ r. ⌜ (sessionOf (r .standing) (newSession .queue) ≡ newSession) × (r .held ≡ 0) ⌝ }
 {
@@ -129,14 +126,18 @@ fn start() -> Turned
     Turned {
         standing: s,
         held: 0,
-        read: 0,
-        ended: false,
-        handed: 0,
-        all: true,
+        came: Moved {
+            bytes: 0,
+            over: false,
+        },
+        handed: Handed {
+            bytes: 0,
+            all: true,
+        },
     }
 }
 
-// The last turn.
+// The turns to the last, which is at the end of the input or where a write failed.
 fn run(q: &mut [u32], chunk: &mut [u8], line: &mut [u8], out: &mut [u8]) -> Turned
     requires { ⌜ (now q ≡ newSession .queue) × (length (now line) ≡ heldMost) × (33 * length (now chunk) ≤ length (now out)) × (33 ≤ length (now out)) ⌝ }
     ensures { λ r. ⌜ Ran r (now (q .exit)) (now (line .exit)) (now (out .exit)) ⌝ }
@@ -144,11 +145,12 @@ fn run(q: &mut [u32], chunk: &mut [u8], line: &mut [u8], out: &mut [u8]) -> Turn
     let mut turns = u64::MAX;
     let mut t = start();
     while 0 < turns {
-        t = turn(t.standing, q, t.held, chunk, line, out);
-        if t.ended {
+        let got = libc::read(STDIN_FILENO, chunk);
+        t = turn(t.standing, q, t.held, got, chunk, line, out);
+        if t.came.over {
             return t;
         }
-        if !t.all {
+        if !t.handed.all {
             return t;
         }
         turns -= 1;

@@ -1,3 +1,4 @@
+use mir.Facts.{toZ-ofZ}
 use native.Mathlib.Nat.{sub-zero}
 use borrow.Author.Needs.{needs}
 use Rattle.recorder.proofs.Running.{handed-on}
@@ -6,16 +7,14 @@ use Rattle.recorder.proofs.turn.Tie as tie
 
 returns : tie.Need-returns
 returns c =
-    let a = c .before .before .before .before .before .before .before .before .before .before in let g = a .before .before .before .before .before .before .came-to in
-    handed-on _ (a .answered .result) _ _ _ (c .before .write-all .result) (g .result .bytes) (g .result .over)
-    (simp sub-zero at (a .answered .ensures)) (simp sub-zero at (c .before .write-all .ensures)) (g .ensures .none)
+    let a = c .before .before .before .before .before .before .before .before .before .before .answered in let g = c .before .before .before .before .before .before .before .before .before .before .before .before .before .before .before .came-to in
+    (rw (toZ-ofZ (c .before .before .before .before .before .before .before .before .before .before .before .before .before .before .before .before .before .before .before .before .fits .got)) at (g .ensures), handed-on _ (a .result) _ _ _ (g .result) (c .before .write-all .result) (simp sub-zero at (a .ensures)) (simp sub-zero at (c .before .write-all .ensures)))
 
 pub turn-spec : {M : Type 1} → statement M
 turn-spec =
     tie.close
     (tie.spec
     (λ c κs. search needs)
-    (λ c κs. search needs)
     (λ c. search needs)
     (λ c. search needs)
     (λ c. search needs)
@@ -24,7 +23,6 @@ turn-spec =
     (λ c. search needs)
     (λ c. search needs)
     (λ c κs. search needs)
-    (λ c. search needs)
     (λ c. search needs)
     (λ c. search needs)
     (λ c. search needs)
