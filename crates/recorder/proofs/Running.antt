@@ -1,18 +1,18 @@
 -- How turns follow one another. Assumes nothing.
 use mathlib.Core.Path.{_≡_, refl, sym, ap, _∙_}
-use mathlib.Core.Bool.{Bool, true, false}
+use mathlib.Core.Bool.{Bool, true, false, not, _||_}
 use mathlib.Core.List.{List, [], _∷_, _++_, append-nil, append-assoc}
-use mathlib.Core.Logic.{inl}
+use mathlib.Core.Logic.{_⊎_, inl, inr}
 use Prim.Native.Nat.{ℕ, _≤_}
 use native.Mathlib.Omega.{arith}
-use lib.ListN.{length, take, length-take}
-use lib.Seq.{take-all, take-take, length-take-le}
-use Rattle.rules.specs.Frames.{newSession, lastText}
+use lib.ListN.{length, take}
+use lib.Seq.{take-take, length-take-le}
+use Rattle.rules.specs.Frames.{newSession}
 use Rattle.rules.specs.declared.Session.{Session}
 use Rattle.frames.specs.Replies.{sessionOf}
-use Rattle.recorder.specs.Course.{Course, heldMost, after, turn, turns}
+use Rattle.recorder.specs.Course.{Course, heldMost, after, turn, turns, course}
 use Rattle.recorder.specs.Walks.{Walks}
-use Rattle.recorder.specs.Turns.{Hands, Turns, Stands, Ran}
+use Rattle.recorder.specs.Turns.{Hands, Turns}
 use Rattle.recorder.specs.declared.Handed.{Handed}
 use Rattle.recorder.specs.declared.Moved.{Moved}
 use Rattle.recorder.specs.declared.Turned.{Turned}
@@ -46,29 +46,32 @@ more s line (p ∷ parts) part =
     let w = turn false s line p in
     ap (after (w .text)) (more (w .session) (take heldMost (w .line)) parts part) ∙ rw append-assoc
 
--- where the program stands after a turn that went on, and after the last
+-- where the program stands after its reads brought some parts
+pub record Stands (parts : List (List ℕ)) (r : Turned) (queue held : List ℕ) : Type 0 where
+  pub session : sessionOf (r .standing) queue ≡ course parts .session
+  pub most : r .held ≤ heldMost
+  pub line : take (r .held) held ≡ course parts .line
+
+-- the next turn, and where the program stands after it if it is not the last
 module _ (parts : List (List ℕ)) (part : List ℕ) (t r : Turned) (queue line queue′ line′ out : List ℕ) (k : Stands parts t queue line) where
-  pub went-on : (ended : Bool) → ended ≡ false
-      → Turns (turn ended (sessionOf (t .standing) queue) (take (t .held) line) part) r queue′ line′ out
+  pub next-turn : (over : Bool) → Turns (turn over (sessionOf (t .standing) queue) (take (t .held) line) part) r queue′ line′ out
+      → Turns (turn over (course parts .session) (course parts .line) part) r queue′ line′ out
+  next-turn over w = rw (← k .session, ← k .line) w
+
+  pub went-on : (over : Bool) → over ≡ false
+      → Turns (turn over (sessionOf (t .standing) queue) (take (t .held) line) part) r queue′ line′ out
       → Stands (parts ++ part ∷ []) r queue′ line′
   went-on false e w =
-      record {
-        session = rw (more newSession [] parts part, ← k .session, ← k .line) (w .session);
-        most = w .most;
-        line = rw (more newSession [] parts part, ← k .session, ← k .line) (w .line);
-      }
+      let v = next-turn false w in
+      record { session = rw (more newSession [] parts part) (v .session); most = w .most; line = rw (more newSession [] parts part) (v .line) }
   went-on true e w = let z : _≡_ {A = ℕ} 0 1 = cc in absurd (omega arith)
 
-  pub ran : (ended : Bool) → ended ≡ true → r .came .over ≡ true
-      → Turns (turn ended (sessionOf (t .standing) queue) (take (t .held) line) part) r queue′ line′ out → Ran r queue′ line′ out
-  ran true e f w =
-      record {
-        parts = parts;
-        stands = record {
-          session = w .session ∙ k .session;
-          most = w .most;
-          line = w .line ∙ take-all heldMost (take (t .held) line) (simp length-take (omega (arith, k .most))) ∙ k .line;
-        };
-        cause = inl (f, rw (← k .session, ← k .line) w);
-      }
-  ran false e f w = let z : _≡_ {A = ℕ} 0 1 = cc in absurd (omega arith)
+-- why a turn is the last
+pub why-last : (over all spent : Bool) (P : Type 0) → (spent ≡ true → P) → (over || not all || spent) ≡ true → (over ≡ true) ⊎ (all ≡ false) ⊎ P
+why-last true all spent P f e = inl refl
+why-last false false spent P f e = inr (inl refl)
+why-last false true spent P f e = inr (inr (f e))
+
+pub neither : (a b : Bool) → (a || b) ≡ false → (a ≡ false) × (b ≡ false)
+neither true b e = (cc, cc)
+neither false b e = (refl, e)

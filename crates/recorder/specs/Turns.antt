@@ -33,16 +33,10 @@ pub record Turns (w : Course) (r : Turned) (queue held out : List ℕ) : Type 0 
   pub handed : Hands (w .text) (r .handed)
   pub text : take (r .handed .bytes) out ≡ take (r .handed .bytes) (w .text)
 
--- where the program stands after its reads brought some parts
-pub record Stands (parts : List (List ℕ)) (r : Turned) (queue held : List ℕ) : Type 0 where
-  pub session : sessionOf (r .standing) queue ≡ course parts .session
-  pub most : r .held ≤ heldMost
-  pub line : take (r .held) held ≡ course parts .line
-
--- a run ends with the turn at the end of the input, where a write failed, or after as many reads as 64 bits count
+-- a run ends with the turn at the end of the input, where a write failed, or after as many turns as 64 bits count: there are parts
+-- that its reads brought before, and this last turn is the one that follows them
 pub record Ran (r : Turned) (queue held out : List ℕ) : Type 0 where
   pub parts : List (List ℕ)
-  pub stands : Stands parts r queue held
-  pub cause : ((r .came .over ≡ true) × Turns (turn true (course parts .session) (course parts .line) []) r queue held out)
-      ⊎ (r .handed .all ≡ false)
-      ⊎ (length parts ≡ 2 ^ 64 - 1)
+  pub part : List ℕ
+  pub last : Turns (turn (r .came .over) (course parts .session) (course parts .line) part) r queue held out
+  pub cause : (r .came .over ≡ true) ⊎ (r .handed .all ≡ false) ⊎ (length parts ≡ 2 ^ 64 - 1)

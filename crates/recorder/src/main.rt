@@ -71,13 +71,8 @@ fn write_all(text: &[u8]) -> Handed
         let rest = &text[done..];
         let got = came_to(libc::write(STDOUT_FILENO, rest), rest);
         done += got.bytes;
-        if got.over {
-            return Handed {
-                bytes: done,
-                all: false,
-            };
-        }
-        if turns == 0 {
+        let last = got.over | (turns == 0);
+        if last {
             return Handed {
                 bytes: done,
                 all: false,
@@ -137,25 +132,22 @@ fn start() -> Turned
     }
 }
 
-// The turns to the last, which is at the end of the input or where a write failed.
+// The turns to the last: at the end of the input, or where a write failed. They are counted for the proof alone, as in write_all.
 fn run(q: &mut [u32], chunk: &mut [u8], line: &mut [u8], out: &mut [u8]) -> Turned
     requires { ⌜ (now q ≡ newSession .queue) × (length (now line) ≡ heldMost) × (33 * length (now chunk) ≤ length (now out)) × (33 ≤ length (now out)) ⌝ }
     ensures { λ r. ⌜ Ran r (now (q .exit)) (now (line .exit)) (now (out .exit)) ⌝ }
 {
     let mut turns = u64::MAX;
     let mut t = start();
-    while 0 < turns {
+    loop {
         let got = libc::read(STDIN_FILENO, chunk);
         t = turn(t.standing, q, t.held, got, chunk, line, out);
-        if t.came.over {
-            return t;
-        }
-        if !t.handed.all {
+        let last = t.came.over | !t.handed.all | (turns == 0);
+        if last {
             return t;
         }
         turns -= 1;
     }
-    t
 }
 
 fn chunk_space() -> [u8; 16384]

@@ -1,14 +1,14 @@
 use Prim.Native.Nat.{ℕ, _+_, _-_, _^_}
-use lib.ListN.{length, length-append}
+use lib.Dec.{eqb}
+use lib.ListN.{length, take, length-append}
+use mathlib.Core.Bool.{false, not, _||_}
 use mathlib.Core.List.{List, [], _∷_, _++_}
-use mathlib.Core.Logic.{inl, inr}
 use mathlib.Core.Path.{_≡_, refl, _∙_}
 use native.Mathlib.Omega.{arith}
 use borrow.Author.Needs.{needs}
-use borrow.Author.Tests.{not-true}
+use borrow.Author.Tests.{eqb-true, eqb-false}
 use Rattle.recorder.specs.Course.{turns}
-use Rattle.recorder.specs.Turns.{Stands}
-use Rattle.recorder.proofs.Running.{went-on, ran}
+use Rattle.recorder.proofs.Running.{Stands, next-turn, went-on, why-last, neither}
 use Rattle.recorder.proofs.run.Statement.{statement}
 use Rattle.recorder.proofs.run.Tie as tie
 
@@ -27,39 +27,35 @@ loop-holds c =
 
 turn-requires : tie.Need-turn-requires Inv-loop μ-loop
 turn-requires c κs =
-    let i = c .before .before .before .before .before .before .before .before .before .loop .inv in let p = c .before .before .before .before .before .before .before .before .before .before .before .before .before .before .before .pre in let n = c .before .before .before .before .before .chunk .given in
+    let i = c .before .before .before .before .before .before .before .before .loop .inv in let p = c .before .before .before .before .before .before .before .before .before .before .before .before .before .before .pre in let n = c .before .before .before .before .before .chunk .given in
     (i .5 ∙ p .1, i .1 .most, omega (arith, i, p, n), omega (arith, i, p))
 
 returns : tie.Need-returns Inv-loop μ-loop
 returns c =
-    let t = c .before .before .before .before .before .before .before .turn in let l = c .before .before .before .before .before .before .before .before .before .before .before .before .before .before .before .before .before .loop in
-    ran (l .inv .0) _ (l .t) (t .result) _ _ _ _ _ (l .inv .1) _ (c .if1 .taken) (c .if1 .taken) (t .ensures .1)
-
-returns-2 : tie.Need-returns-2 Inv-loop μ-loop
-returns-2 c =
-    let t = c .before .before .before .before .before .before .before .before .before .turn in let l = c .before .before .before .before .before .before .before .before .before .before .before .before .before .before .before .before .before .before .before .loop in
+    let t = c .before .before .before .before .before .before .before .before .before .turn in let l = c .before .before .before .before .before .before .before .before .before .before .before .before .before .before .before .before .before .before .loop in let part = take (t .result .came .bytes) (c .before .before .before .before .before .before .before .before .before .before .before .before .before .before .before .before .read .last .1 .0) in
     record {
-      parts = l .inv .0 ++ _ ∷ [];
-      stands = went-on (l .inv .0) _ (l .t) (t .result) _ _ _ _ _ (l .inv .1) _ (c .before .before .if1 .left) (t .ensures .1);
-      cause = inr (inl (not-true _ (c .if2 .taken)));
+      parts = l .inv .0;
+      part = part;
+      last = next-turn (l .inv .0) part (l .t) (t .result) _ _ _ _ _ (l .inv .1) (t .result .came .over) (t .ensures .1);
+      cause = why-last (t .result .came .over) (t .result .handed .all) (eqb (l .turns) 0) _ (λ e. omega (arith, l .inv .2, eqb-true (l .turns) 0 e)) (c .if1 .taken);
     }
+
+going : (c : tie.Else1 Inv-loop μ-loop) → (c .before .before .before .before .before .before .before .before .before .turn .result .came .over ≡ false) × (c .before .before .before .before .before .before .before .before .before .before .before .before .before .before .before .before .before .before .loop .turns ≡ 0 → ⊥)
+going c =
+    let t = c .before .before .before .before .before .before .before .before .before .turn .result in let n = c .before .before .before .before .before .before .before .before .before .before .before .before .before .before .before .before .before .before .loop .turns in let e = neither (t .came .over || not (t .handed .all)) (eqb n 0) (c .if1 .left) in
+    (neither (t .came .over) (not (t .handed .all)) (e .0) .0, eqb-false n 0 (e .1))
 
 loop-again : tie.Need-loop-again Inv-loop μ-loop
 loop-again c =
-    let t = c .before .before .before .before .before .before .before .before .before .turn in let l = c .before .before .before .before .before .before .before .before .before .before .before .before .before .before .before .before .before .before .before .loop in let i = l .inv in (
+    let t = c .before .before .before .before .before .before .before .before .before .turn in let l = c .before .before .before .before .before .before .before .before .before .before .before .before .before .before .before .before .before .before .loop in let i = l .inv in let e = going c in (
       i .0 ++ _ ∷ [],
-      went-on (i .0) _ (l .t) (t .result) _ _ _ _ _ (i .1) _ (c .before .before .if1 .left) (t .ensures .1),
-      simp length-append (omega (arith, i .2, c .before .before .before .before .before .before .before .before .before .before .before .before .before .before .before .before .before .before .loop-test .taken)),
+      went-on (i .0) _ (l .t) (t .result) _ _ _ _ _ (i .1) _ (e .0) (t .ensures .1),
+      simp length-append (omega (arith, i .2, e .1)),
       c .before .before .before .before .before .before .before .before .q .given ∙ i .3,
       c .before .before .before .before .before .before .before .before .before .before .before .before .before .before .before .chunk .given ∙ i .4,
       c .before .before .before .before .before .before .line .given ∙ i .5,
       c .before .before .before .before .out .given ∙ i .6,
     )
-
-returns-3 : tie.Need-returns-3 Inv-loop μ-loop
-returns-3 c =
-    let i = c .before .loop .inv in
-    record { parts = i .0; stands = i .1; cause = inr (inr (omega (arith, i .2, c .loop-test .left))) }
 
 pub run-spec : {M : Type 1} → statement M
 run-spec =
@@ -71,21 +67,11 @@ run-spec =
     loop-holds
     (λ c κs. search needs)
     turn-requires
-    (λ c. search needs)
-    (λ c. search needs)
-    (λ c. search needs)
-    (λ c. search needs)
+    (λ c. c .before .before .before .before .before .before .before .before .q .given ∙ c .before .before .before .before .before .before .before .before .before .before .before .before .before .before .before .before .before .before .loop .inv .3)
+    (λ c. c .before .before .before .before .before .before .before .before .before .before .before .before .before .before .before .chunk .given ∙ c .before .before .before .before .before .before .before .before .before .before .before .before .before .before .before .before .before .before .loop .inv .4)
+    (λ c. c .before .before .before .before .before .before .line .given ∙ c .before .before .before .before .before .before .before .before .before .before .before .before .before .before .before .before .before .before .loop .inv .5)
+    (λ c. c .before .before .before .before .out .given ∙ c .before .before .before .before .before .before .before .before .before .before .before .before .before .before .before .before .before .before .loop .inv .6)
     returns
-    (λ c. c .before .before .before .before .before .before .before .before .q .given ∙ c .before .before .before .before .before .before .before .before .before .before .before .before .before .before .before .before .before .before .before .loop .inv .3)
-    (λ c. c .before .before .before .before .before .before .before .before .before .before .before .before .before .before .before .chunk .given ∙ c .before .before .before .before .before .before .before .before .before .before .before .before .before .before .before .before .before .before .before .loop .inv .4)
-    (λ c. c .before .before .before .before .before .before .line .given ∙ c .before .before .before .before .before .before .before .before .before .before .before .before .before .before .before .before .before .before .before .loop .inv .5)
-    (λ c. c .before .before .before .before .out .given ∙ c .before .before .before .before .before .before .before .before .before .before .before .before .before .before .before .before .before .before .before .loop .inv .6)
-    returns-2
-    (λ c. omega (arith, c .before .before .before .before .before .before .before .before .before .before .before .before .before .before .before .before .before .before .loop-test .taken))
-    (λ c. omega (arith, c .before .before .before .before .before .before .before .before .before .before .before .before .before .before .before .before .before .before .loop-test .taken))
-    loop-again
-    (λ c. search needs)
-    (λ c. search needs)
-    (λ c. search needs)
-    (λ c. search needs)
-    returns-3)
+    (λ c. omega (arith, going c .1))
+    (λ c. omega (arith, going c .1))
+    loop-again)

@@ -1,7 +1,11 @@
+use lib.Dec.{eqb}
 use lib.ListN.{length}
 use Prim.Native.Nat.{_≤_}
+use mathlib.Core.Path.{_≡_}
 use native.Mathlib.Omega.{arith}
 use borrow.Author.Needs.{needs}
+use borrow.Author.Tests.{eqb-false}
+use Rattle.recorder.proofs.Running.{neither}
 use Rattle.recorder.proofs.write_all.Statement.{statement}
 use Rattle.recorder.proofs.write_all.Tie as tie
 
@@ -14,8 +18,10 @@ abbrev μ-loop : tie.MeasureT-loop
 returns : tie.Need-returns Inv-loop μ-loop
 returns c = record { some = search needs; whole = λ e. cc }
 
-returns-2 : tie.Need-returns-2 Inv-loop μ-loop
-returns-2 c = record { some = search needs; whole = λ e. cc }
+going : (c : tie.Else1 Inv-loop μ-loop) → c .before .before .before .before .before .before .before .loop .turns ≡ 0 → ⊥
+going c =
+    let n = c .before .before .before .before .before .before .before .loop .turns in
+    eqb-false n 0 (neither (c .before .before .before .came-to .result .over) (eqb n 0) (c .if1 .left) .1)
 
 pub write-all-spec : {M : Type 1} → statement M
 write-all-spec =
@@ -31,8 +37,7 @@ write-all-spec =
     (λ c κs. search needs)
     (λ c. search needs)
     returns
-    returns-2
-    (λ c. search needs)
-    (λ c. search needs)
+    (λ c. omega (arith, going c))
+    (λ c. omega (arith, going c))
     (λ c. search needs)
     (λ c. search needs))
