@@ -3,9 +3,10 @@ use mathlib.Core.Path.{_≡_, refl, sym, ap, _∙_}
 use mathlib.Core.Bool.{Bool, true, false, not, _||_}
 use mathlib.Core.List.{List, [], _∷_, _++_, append-nil, append-assoc}
 use mathlib.Core.Logic.{_⊎_, inl, inr}
-use Prim.Native.Nat.{ℕ, _≤_}
+use Prim.Native.Nat.{ℕ, _-_, _≤_}
+use native.Mathlib.Nat.{sub-zero}
 use native.Mathlib.Omega.{arith}
-use lib.ListN.{length, take}
+use lib.ListN.{length, take, drop}
 use lib.Seq.{take-take, length-take-le}
 use Rattle.rules.specs.Frames.{newSession}
 use Rattle.rules.specs.declared.Session.{Session}
@@ -18,18 +19,18 @@ use Rattle.recorder.specs.declared.Moved.{Moved}
 use Rattle.recorder.specs.declared.Turned.{Turned}
 use Rattle.recorder.specs.declared.walk.Walked.{Walked}
 
--- what the writes took of the answers
+-- what the writes took of the answers, which stand at the start of the memory
 pub handed-on : (w : Course) (r : Walked) (queue line out : List ℕ) (came : Moved) (h : Handed)
-    → Walks w r queue line out → Hands (take (r .at) out) h
+    → Walks w r queue line out → Hands (take (r .at - 0) (drop 0 out)) h
     → Turns w (record { standing = r .standing; held = r .held; came = came; handed = h }) queue line out
 handed-on w r queue line out came h k t =
-    let n : length (take (r .at) out) ≡ r .at = length-take-le (r .at) out (k .room) in
+    let n : length (take (r .at) out) ≡ r .at = length-take-le (r .at) out (k .room) in let u = simp sub-zero at t in
     record {
       session = k .session;
       most = k .most;
       line = k .line;
-      handed = rw (← k .text) t;
-      text = sym (take-take (h .bytes) (r .at) out (omega (arith, t .some))) ∙ ap (take (h .bytes)) (k .text);
+      handed = rw (← k .text) u;
+      text = sym (take-take (h .bytes) (r .at) out (omega (arith, u .some))) ∙ ap (take (h .bytes)) (k .text);
     }
 
 -- one turn more

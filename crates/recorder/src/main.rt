@@ -117,9 +117,9 @@ fn turn(
 fn start() -> Turned
     ensures { λ r. ⌜ (sessionOf (r .standing) (newSession .queue) ≡ newSession) × (r .held ≡ 0) ⌝ }
 {
-    let s = frames::new_standing();
+    let standing = frames::new_standing();
     Turned {
-        standing: s,
+        standing: standing,
         held: 0,
         came: Moved {
             bytes: 0,

@@ -112,11 +112,11 @@ pub fn answered(
     ensures { λ r. ⌜ Walks (turn ended (sessionOf standing (now (q .entry))) (take held (now (line .entry))) (now (part .entry))) r (now (q .exit)) (now (line .exit)) (now (out .exit)) ⌝ }
 {
     if ended {
-        let at = end(&line[0..held], out);
+        let last = end(&line[0..held], out);
         return Walked {
             standing: standing,
             held: held,
-            at: at,
+            at: last,
         };
     }
     walk(standing, q, line, held, part, out)

@@ -23,6 +23,9 @@ going c =
     let n = c .before .before .before .before .before .before .before .loop .turns in
     eqb-false n 0 (neither (c .before .before .before .came-to .result .over) (eqb n 0) (c .if1 .left) .1)
 
+returns-2 : tie.Need-returns-2 Inv-loop μ-loop
+returns-2 c = search needs
+
 pub write-all-spec : {M : Type 1} → statement M
 write-all-spec =
     tie.close
@@ -40,4 +43,4 @@ write-all-spec =
     (λ c. omega (arith, going c))
     (λ c. omega (arith, going c))
     (λ c. search needs)
-    (λ c. search needs))
+    returns-2)
