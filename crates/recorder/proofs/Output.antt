@@ -12,7 +12,9 @@ use Rattle.rules.specs.Tests.{pick}
 use Rattle.rules.specs.Frames.{reply, newSession, lastText, linesOf, cutAt, joinedTo, output, program}
 use Rattle.rules.specs.declared.Reply.{Reply}
 use Rattle.rules.specs.declared.Session.{Session}
-use Rattle.recorder.specs.Course.{Course, heldMost, after, walk, turns, answers, whole}
+use Rattle.recorder.specs.Course.{Course, heldMost, after, walk, turn, turns, course, answers, whole}
+use Rattle.recorder.specs.Turns.{Turns, Ran}
+use Rattle.recorder.specs.declared.Turned.{Turned}
 use Rattle.recorder.proofs.Walking.{reply-held}
 
 -- there is always a last line
@@ -139,3 +141,18 @@ answers-program parts = in-turns newSession [] parts ∙ said newSession [] (who
   where
     none : (lines : List (List ℕ)) → Lines lines → begun [] lines ≡ lines
     none lines l = rw (l .are)
+
+-- what a last turn handed on at the end of the input
+last-text : (over : Bool) (s : Session) (line part : List ℕ) (r : Turned) (queue held out : List ℕ) → over ≡ true → r .handed .all ≡ true
+    → Turns (turn over s line part) r queue held out → take (r .handed .bytes) out ≡ lastText line
+last-text true s line part r queue held out e a t =
+    t .text ∙ take-all (r .handed .bytes) (lastText line) (omega (arith, t .handed .whole a))
+last-text false s line part r queue held out e a t = cc
+
+-- a run that ended with the input, and whose writes took all, has handed on what the definitions say of the whole input
+pub ran-program : (r : Turned) (queue held out : List ℕ) (k : Ran r queue held out) → r .came .over ≡ true → r .handed .all ≡ true
+    → course (k .parts) .text ++ take (r .handed .bytes) out ≡ program (whole (k .parts))
+ran-program r queue held out k e a =
+    let c = course (k .parts) in
+    ap (λ (t : List ℕ). c .text ++ t) (last-text (r .came .over) (c .session) (c .line) (k .part) r queue held out e a (k .last))
+    ∙ answers-program (k .parts)

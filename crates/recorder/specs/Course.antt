@@ -19,6 +19,7 @@ pub record Course : Type 0 where
   pub line : List ℕ
   pub text : List ℕ
 
+-- a course that follows answers given before it
 abbrev pub after : List ℕ → Course → Course
 after text w = record { session = w .session; line = w .line; text = text ++ w .text }
 
@@ -48,6 +49,7 @@ course parts = turns newSession [] parts
 abbrev pub answers : List (List ℕ) → List ℕ
 answers parts = course parts .text ++ turn true (course parts .session) (course parts .line) [] .text
 
+-- the input that came in these parts
 abbrev pub whole : List (List ℕ) → List ℕ
 whole [] = []
 whole (part ∷ parts) = part ++ whole parts

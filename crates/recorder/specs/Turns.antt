@@ -13,7 +13,7 @@ use Rattle.recorder.specs.declared.Moved.{Moved}
 use Rattle.recorder.specs.declared.Handed.{Handed}
 use Rattle.recorder.specs.declared.Turned.{Turned}
 
--- a read or a write that was lent n bytes moved as many as it answered; it is the last where it answered 0, and never where it moved any
+-- a read or a write that was lent n bytes moved as many as it answered; it is the last if it answered 0, and is not if it moved any
 pub record Moves (answer : ℤ) (n : ℕ) (r : Moved) : Type 0 where
   pub bytes : r .bytes ≡ clamped answer n
   pub room : r .bytes ≤ n

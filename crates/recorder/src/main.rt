@@ -16,7 +16,7 @@ ghost use Rattle.frames.specs.Replies.{sessionOf};
 ghost use Rattle.recorder.specs.Course.{heldMost, turn};
 ghost use Rattle.recorder.specs.Turns.{Moves, Hands, Turns, Ran};
 
-// What a read or a write moved; where it moved nothing, whether none is to be made again.
+// What a read or a write moved, and whether it was the last: at the end of the input, or where it failed.
 struct Moved {
     bytes: usize,
     over: bool,
