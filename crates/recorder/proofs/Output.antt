@@ -12,7 +12,9 @@ use Rattle.rules.specs.Tests.{pick}
 use Rattle.rules.specs.Frames.{reply, newSession, lastText, linesOf, cutAt, joinedTo, output, program}
 use Rattle.rules.specs.declared.Reply.{Reply}
 use Rattle.rules.specs.declared.Session.{Session}
-use Rattle.recorder.specs.Course.{Course, heldMost, after, walk, answers, whole}
+use Rattle.recorder.specs.Course.{Course, heldMost, after, walk, turn, turns, course, answers, whole}
+use Rattle.recorder.specs.Turns.{Turns, Ran}
+use Rattle.recorder.specs.declared.Turned.{Turned}
 use Rattle.recorder.proofs.Walking.{reply-held}
 
 -- there is always a last line
@@ -118,21 +120,39 @@ joined s line (b ∷ a) d = go (eqb b 10) (joined (reply s line .session) [] a d
     go true ended going = rw (ended, append-assoc)
     go false ended going = going
 
-in-parts : (s : Session) (line : List ℕ) (parts : List (List ℕ)) → answers s line parts ≡ final (walk s line (whole parts))
-unfolding answers walk final Alike
-in-parts s line [] = refl
-in-parts s line (part ∷ parts) =
-    let w = walk s line part in
-    ap (λ (t : List ℕ). w .text ++ t) (in-parts (w .session) (take heldMost (w .line)) parts
+-- the turns in a row, and the end of the input after them
+in-turns : (s : Session) (line : List ℕ) (parts : List (List ℕ)) → final (turns s line parts) ≡ final (walk s line (whole parts))
+unfolding turns walk final Alike
+in-turns s line [] = refl
+in-turns s line (part ∷ parts) =
+    let w = walk s line part in let t = turns (w .session) (take heldMost (w .line)) parts in
+    append-assoc (w .text) (t .text) (lastText (t .line))
+    ∙ ap (λ (t : List ℕ). w .text ++ t) (in-turns (w .session) (take heldMost (w .line)) parts
     ∙ alike (w .session) (take heldMost (w .line)) (w .line) (whole parts) (capped (w .line)))
     ∙ rw (joined s line part (whole parts), append-assoc)
   where
     capped : (p : List ℕ) → Alike (take heldMost p) p
     capped p = take-take heldMost heldMost p (omega arith)
 
-pub answers-program : (parts : List (List ℕ)) → answers newSession [] parts ≡ program (whole parts)
-unfolding begun
-answers-program parts = in-parts newSession [] parts ∙ said newSession [] (whole parts) ∙ ap (output newSession) (none (linesOf (whole parts)) (lines-of (whole parts)))
+-- the texts of the turns, one for each read, and the text of the end are together what the definitions say of the whole input
+pub answers-program : (parts : List (List ℕ)) → answers parts ≡ program (whole parts)
+unfolding begun final
+answers-program parts = in-turns newSession [] parts ∙ said newSession [] (whole parts) ∙ ap (output newSession) (none (linesOf (whole parts)) (lines-of (whole parts)))
   where
     none : (lines : List (List ℕ)) → Lines lines → begun [] lines ≡ lines
     none lines l = rw (l .are)
+
+-- what a last turn handed on at the end of the input
+last-text : (over : Bool) (s : Session) (line part : List ℕ) (r : Turned) (queue held out : List ℕ) → over ≡ true → r .handed .all ≡ true
+    → Turns (turn over s line part) r queue held out → take (r .handed .bytes) out ≡ lastText line
+last-text true s line part r queue held out e a t =
+    t .text ∙ take-all (r .handed .bytes) (lastText line) (omega (arith, t .handed .whole a))
+last-text false s line part r queue held out e a t = cc
+
+-- a run that ended with the input, and whose writes took all, has handed on what the definitions say of the whole input
+pub ran-program : (r : Turned) (queue held out : List ℕ) (k : Ran r queue held out) → r .came .over ≡ true → r .handed .all ≡ true
+    → course (k .parts) .text ++ take (r .handed .bytes) out ≡ program (whole (k .parts))
+ran-program r queue held out k e a =
+    let c = course (k .parts) in
+    ap (λ (t : List ℕ). c .text ++ t) (last-text (r .came .over) (c .session) (c .line) (k .part) r queue held out e a (k .last))
+    ∙ answers-program (k .parts)

@@ -8,8 +8,10 @@ use native.Mathlib.Omega.{arith}
 use lib.ListN.{length, take, drop, getD, length-take, length-drop, drop-of-length-le}
 use lib.Seq.{append-snoc, take-all, take-append-add, length-take-le, paste, take-paste, drop-cons, drop-drop, getD-drop}
 use borrow.Author.Tests.{lt-ltb, ne-eqb}
-use Rattle.rules.specs.Frames.{readLine, reply, readingReply}
+use Rattle.rules.specs.Frames.{readLine, reply, readingReply, lastText, answerLine}
+use Rattle.rules.specs.declared.Answer.the-variants.{Refused}
 use Rattle.rules.specs.declared.Reading.{Reading}
+use Rattle.rules.specs.declared.Refusal.the-variants.{IllFormed}
 use Rattle.rules.specs.declared.Reply.{Reply}
 use Rattle.rules.specs.declared.Session.{Session}
 use Rattle.frames.specs.Replies.{Gives, sessionOf}
@@ -98,3 +100,12 @@ pub empty : (w : Course) (s : Session) (line chunk before : List ℕ) (from : �
     → length chunk ≤ from → w ≡ record { session = s; line = line; text = before }
 unfolding walk
 empty w s line chunk before from h l = h ∙ rw (drop-of-length-le chunk l, append-nil)
+
+-- whether the last line is empty
+pub last-none : (line : List ℕ) → length line ≡ 0 → lastText line ≡ []
+last-none [] e = refl
+last-none (b ∷ line) e = absurd (omega arith)
+
+pub last-some : (line : List ℕ) → (length line ≡ 0 → ⊥) → lastText line ≡ answerLine (Refused IllFormed)
+last-some [] f = absurd (f refl)
+last-some (b ∷ line) f = refl

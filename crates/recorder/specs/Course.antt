@@ -19,6 +19,7 @@ pub record Course : Type 0 where
   pub line : List ℕ
   pub text : List ℕ
 
+-- a course that follows answers given before it
 abbrev pub after : List ℕ → Course → Course
 after text w = record { session = w .session; line = w .line; text = text ++ w .text }
 
@@ -28,12 +29,27 @@ walk s line [] = record { session = s; line = line; text = [] }
 walk s line (b ∷ input) =
     pick (eqb b 10) (after (reply s line .text) (walk (reply s line .session) [] input)) (walk s (line ++ b ∷ []) input)
 
--- what the program writes of an input that comes in parts: no more of a line is held between two parts than `heldMost`
-unfoldable pub answers : Session → List ℕ → List (List ℕ) → List ℕ
-answers s line [] = lastText line
-answers s line (part ∷ parts) =
-    walk s line part .text ++ answers (walk s line part .session) (take heldMost (walk s line part .line)) parts
+-- a turn of the program: the lines that end in what a read brought are answered, and at the end of the input the line that is left
+abbrev pub turn : Bool → Session → List ℕ → List ℕ → Course
+turn false s line part = walk s line part
+turn true s line part = record { session = s; line = line; text = lastText line }
 
+-- the turns before the end of the input in a row, one for each read: no more of a line is held from one to the next than `heldMost`
+unfoldable pub turns : Session → List ℕ → List (List ℕ) → Course
+turns s line [] = record { session = s; line = line; text = [] }
+turns s line (part ∷ parts) =
+    after (turn false s line part .text)
+    (turns (turn false s line part .session) (take heldMost (turn false s line part .line)) parts)
+
+-- the course of the program over what its reads brought, from its start on
+abbrev pub course : List (List ℕ) → Course
+course parts = turns newSession [] parts
+
+-- all that the program writes: the texts of the turns, and that of the end of the input
+abbrev pub answers : List (List ℕ) → List ℕ
+answers parts = course parts .text ++ turn true (course parts .session) (course parts .line) [] .text
+
+-- the input that came in these parts
 abbrev pub whole : List (List ℕ) → List ℕ
 whole [] = []
 whole (part ∷ parts) = part ++ whole parts

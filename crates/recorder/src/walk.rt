@@ -4,13 +4,15 @@ use crate::lines::line_end;
 use crate::lines::put;
 use frames::Replied;
 use frames::Standing;
+use rules::Answer;
+use rules::Refusal;
 ghost use mathlib.Core.Path.{_≡_};
 ghost use mathlib.Core.List.{_++_};
 ghost use Prim.Native.Nat.{_+_, _*_, _≤_};
 ghost use lib.ListN.{length, take};
-ghost use Rattle.rules.specs.Frames.{reply};
+ghost use Rattle.rules.specs.Frames.{reply, lastText};
 ghost use Rattle.frames.specs.Replies.{Gives, sessionOf};
-ghost use Rattle.recorder.specs.Course.{walk, heldMost};
+ghost use Rattle.recorder.specs.Course.{walk, turn, heldMost};
 ghost use Rattle.recorder.specs.Walks.{Walks};
 
 // How much is held of a line that has not ended, and how many bytes were answered.
@@ -78,4 +80,44 @@ pub fn walk(
         held: kept,
         at: at,
     }
+}
+
+// The answer to a last line without line feed, which is ill-formed; an empty one is none.
+fn end(line: &[u8], out: &mut [u8]) -> usize
+    requires { ⌜ 33 ≤ length (now out) ⌝ }
+    ensures { λ r. ⌜ (r ≤ length (now (out .exit))) × (take r (now (out .exit)) ≡ lastText (now (line .entry))) ⌝ }
+{
+    if line.len() == 0 {
+        return 0;
+    }
+    put_text(
+        out,
+        0,
+        frames::answer_line(Answer::Refused(Refusal::IllFormed)),
+    );
+    33
+}
+
+// What is answered after a read: the lines that end in what it brought, and at the end of the input the line that is left.
+pub fn answered(
+    standing: Standing,
+    q: &mut [u32],
+    line: &mut [u8],
+    held: usize,
+    part: &[u8],
+    ended: bool,
+    out: &mut [u8],
+) -> Walked
+    requires { ⌜ (length (now line) ≡ heldMost) × (held ≤ heldMost) × (33 * length (now part) ≤ length (now out)) × (33 ≤ length (now out)) ⌝ }
+    ensures { λ r. ⌜ Walks (turn ended (sessionOf standing (now (q .entry))) (take held (now (line .entry))) (now (part .entry))) r (now (q .exit)) (now (line .exit)) (now (out .exit)) ⌝ }
+{
+    if ended {
+        let last = end(&line[0..held], out);
+        return Walked {
+            standing: standing,
+            held: held,
+            at: last,
+        };
+    }
+    walk(standing, q, line, held, part, out)
 }

@@ -2,6 +2,9 @@ use borrow.Author.Needs.{needs}
 use Rattle.recorder.proofs.main.Statement.{statement}
 use Rattle.recorder.proofs.main.Tie as tie
 
+run-requires : tie.Need-run-requires
+run-requires c κs = search needs
+
 pub main-spec : {M : Type 1} → statement M
 main-spec =
     tie.close
@@ -13,5 +16,5 @@ main-spec =
     (λ c. search needs)
     (λ c. search needs)
     (λ c. search needs)
-    (λ c κs. search needs)
+    run-requires
     (λ c. search needs))
