@@ -12,7 +12,7 @@ ghost use Prim.Native.Nat.{_*_, _≤_};
 ghost use lib.IntN.{pos};
 ghost use lib.ListN.{length, take};
 ghost use Rattle.rules.specs.Frames.{newSession};
-ghost use Rattle.frames.specs.Replies.{sessionOf};
+ghost use Rattle.frames.specs.Replies.{sessionOf, newStanding};
 ghost use Rattle.recorder.specs.Course.{heldMost, turn};
 ghost use Rattle.recorder.specs.Turns.{Moves, Hands, Turns, Ran};
 
@@ -115,7 +115,7 @@ fn turn(
 
 // Before the first read.
 fn start() -> Turned
-    ensures { λ r. ⌜ (sessionOf (r .standing) (newSession .queue) ≡ newSession) × (r .held ≡ 0) ⌝ }
+    ensures { λ r. ⌜ (r .standing ≡ newStanding) × (r .held ≡ 0) ⌝ }
 {
     let standing = frames::new_standing();
     Turned {

@@ -23,7 +23,7 @@ loop-holds : tie.Need-loop-holds Inv-loop μ-loop
 unfolding turns
 loop-holds c =
     let n = c .start .ensures in let p = c .before .before .before .before .before .pre in
-    ([], record { session = rw (p .0) (n .0); most = omega arith; line = rw (n .1) }, refl, refl, refl, refl, refl)
+    ([], record { session = rw (n .0, p .0); most = omega arith; line = rw (n .1) }, refl, refl, refl, refl, refl)
 
 turn-requires : tie.Need-turn-requires Inv-loop μ-loop
 turn-requires c κs =
