@@ -97,8 +97,7 @@ ROWS = {
 VERDICTS = {
     (): 'Nothing was taken: 3 events or more are untold. Take (07) until nothing is told.',
     ('take',):
-        'Event 1: taken, and none is missing. Entries are left in the queue: 2 events or more are untold. '
-        'Take on until nothing is told.',
+        'Event 1: taken, and none is missing. Entries are left in the queue, 2 or more: take on until nothing is told.',
     ('take',) * 3:
         'Events 1 to 3: taken, and none is missing. No take came back empty, so more may be left: take on until nothing is told.',
     ('take',) * 4: 'Every event from 1 to 3 was taken and none is missing.',
@@ -106,8 +105,7 @@ VERDICTS = {
         'Events 1 to 3: taken, and none is missing. Calls came after the last take that came back empty, so more may be left: '
         'take on until nothing is told.',
     (*('take',) * 4, 'bad'):
-        'Events 1 to 3: taken, and none is missing. Entries are left in the queue: 1 event or more are untold. '
-        'Take on until nothing is told.',
+        'Events 1 to 3: taken, and none is missing. Entries are left in the queue, 1 or more: take on until nothing is told.',
 }
 
 
@@ -143,8 +141,9 @@ def stored_sessions(report):
         report.check(session.journal.sound(), f'bin/session calls sessions/{path.name} impossible:\n{said[-400:]}')
         row = ROWS.get(path.stem, '')
         report.check(row in said, f'bin/session has no such row for sessions/{path.name}: {row}')
-        widest = max(map(len, said.splitlines()))
-        report.check(widest <= 120, f'bin/session writes {widest} columns for sessions/{path.name}')
+        *rows, verdict = map(len, said.splitlines())  # the verdict is one line, however much it has to say
+        widest = max(rows)
+        report.check(widest <= 120 and verdict <= 160, f'bin/session writes {widest} columns and a verdict of {verdict} for sessions/{path.name}')
 
 
 def verdicts(report):

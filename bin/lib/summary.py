@@ -133,7 +133,7 @@ def others(gaps, last):
 
 def behind(session, left):
     if left:
-        return f' Entries are left in the queue: {counted(left, "event")} or more are untold. Take on until nothing is told.'
+        return f' Entries are left in the queue, {left:,} or more: take on until nothing is told.'
     if not session.empty:
         return ' No take came back empty, so more may be left: take on until nothing is told.'
     if session.raised.more:
