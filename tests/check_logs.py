@@ -13,6 +13,7 @@ FACTS = (
     '`cases-hold`: expected type `allSeen cases ≡ allDue cases`, but this has type `allSeen cases ≡ allSeen cases`',
     '`V-S`: as printed, the two types differ only where one has `true` (expected)',
     '`numbers-left`: computed as far as they go, the two types are `e + 2 ≤ 8` (expected) and `e + 1 ≤ 8` (found)',
+    '`returns`: `take n line`\n  ≟ `take m line`\n  does not hold (this comparison had to wait; it turned out false)',
 )
 GONE = (
     '`mul-result`: `tie.Need-mul-result`: module `proofs.product.Tie` has no `Need-mul-result` that can be named from here',

@@ -19,6 +19,7 @@ FACTS = re.compile('|'.join((
     r'expected type `',
     r'as printed, the two ',
     r'computed as far as they go, the two ',
+    r'`.*`\n  ≟ `.*`\n  does not hold ',
 )))
 # Types that differ are no fact where what differs is the list of parts that a proof is closed with.
 PARTS = re.compile(r'(expected|as printed|computed).*(\bLts\.Closed|\bNeed-)', re.DOTALL)
