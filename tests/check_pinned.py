@@ -5,6 +5,7 @@ The tables stand in crates/rules/proofs. A session there has the name of the sto
 
 import re
 
+import edges
 import model
 import programs
 from programs import ROOT
@@ -23,8 +24,9 @@ def check(report, pair, options):
             told += 1
             calls += text.count(b'\n')
             held_to_stored(report, name, text, answers)
-    edges = held_to_model(report)
-    return f'{told} sessions, {calls:,} calls; {edges} plans, entries and memories'
+    ends = held_to_model(report)
+    records = held_to_edges(report)
+    return f'{told} sessions, {calls:,} calls; {ends} plans, entries and memories; {records} records'
 
 
 def held_to_stored(report, name, text, answers):
@@ -178,3 +180,28 @@ def second_opens(report, plans):
     for plan in plans:
         text = words(1, *plan, 0) + b'\n'
         report.agreed(f'plan {plan}', text, {'model': model.run(text), 'second': programs.output(job, text)})
+
+
+# ---- Records.antt
+
+def held_to_edges(report):
+    """The table has each record of the probe's edges, with what the model says of it, and no other."""
+    text = read(report, 'Records.antt', 'records-hold : allSeen records ≡ allDue records')
+    rows = dict(re.findall(r'\b((?:screening|sampling)(?: \d+)+) ▸ (passes|unsound)', text))
+    due = {record_row(station): 'passes' if model.sound(station) else 'unsound' for _, *pair in edges.edges() for station in pair}
+    for row, said in due.items():
+        report.check(rows.get(row) == said, f'{row}: {rows.get(row, "nothing")} in the proof, and {said} by the model')
+    report.check(set(rows) == set(due), f'Records.antt has rows that are no edge: {sorted(set(rows) - set(due))[:3]}')
+    return len(rows)
+
+
+def record_row(station):
+    """A record by its numbers, as the table has it; room, generator and the flag heard are the same in all of them."""
+    phases = {
+        model.SCREENING: ('screening', model.SCREENING_FIELDS),
+        model.SAMPLING: ('sampling', model.SAMPLING_FIELDS),
+    }
+    name, fields = phases[station.phase]
+    plan, tallies = ('type', 'n', 'i', 'S', 'x', 'N'), ('conforming', 'defective', 'passed', 'missed', 'owed', 'last')
+    numbers = ('silent', 'told', 'oldest', 'next')
+    return ' '.join([name, *(str(getattr(station, field)) for field in (*plan, *tallies, *fields, *numbers))])
