@@ -20,7 +20,7 @@ pub record Moves (answer : ℤ) (n : ℕ) (r : Moved) : Type 0 where
   pub over : answer ≡ pos 0 → r .over ≡ true
   pub none : r .over ≡ true → r .bytes ≡ 0
 
--- no more of a text is handed on than there is, and all of it unless a write failed
+-- no more of a text is counted as handed on than there is, and all of it where all is said
 pub record Hands (text : List ℕ) (r : Handed) : Type 0 where
   pub some : r .bytes ≤ length text
   pub whole : r .all ≡ true → r .bytes ≡ length text
