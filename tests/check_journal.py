@@ -198,7 +198,7 @@ def says(report, name, text, expected, *options):
 
 def closes(report, name, text, closing, status):
     done = journal(text)
-    last = done.stdout.decode().splitlines()[-1]
+    last = (done.stdout.decode().splitlines() or ['(nothing)'])[-1]
     good = last == closing and done.returncode == status and not done.stderr
     report.check(good, f'bin/journal on {name} ends with {done.returncode} and: {last}')
 
