@@ -24,6 +24,7 @@ fn refusal_number(r: Refusal) -> u8
         Refusal::NothingToFind => 8,
         Refusal::IllFormed => 9,
         Refusal::NumbersSpent => 10,
+        Refusal::ChangeNotAllowed => 11,
     }
 }
 

@@ -8,7 +8,7 @@ use rules::Reading;
 ghost use mathlib.Core.Path.{_≡_};
 ghost use Prim.Native.Nat.{_+_, _*_, _≤_};
 ghost use lib.ListN.{length};
-ghost use Rattle.rules.specs.Frames.{hex, word, spaced, bareFrame, oneWordFrame, tableFrame, openFrame, frameOf, readLine};
+ghost use Rattle.rules.specs.Frames.{hex, word, spaced, bareFrame, oneWordFrame, tableFrame, planFrame, sevenWordFrame, frameOf, readLine};
 
 fn spaced(space: u8, v: u64) -> u64
     ensures { λ r. ⌜ r ≡ spaced space v ⌝ }
@@ -88,7 +88,26 @@ fn table_frame(code: u64, kind: u64, letter: u64, aql: u64, period: u64, seed: u
     })
 }
 
-fn open_frame(
+// A plan and a seed, or a plan and 0 or 1, on demand.
+fn plan_frame(code: u64, plan: Plan, last: u32) -> Reading
+    ensures { λ r. ⌜ r ≡ planFrame code plan last ⌝ }
+{
+    if code == 1 {
+        return Reading::Read(Frame::Open {
+            plan: plan,
+            seed: last,
+        });
+    }
+    if (code == 9) & (last <= 1) {
+        return Reading::Read(Frame::Call(Call::Change {
+            plan: plan,
+            demand: last == 1,
+        }));
+    }
+    Reading::Bad
+}
+
+fn seven_word_frame(
     code: u64,
     kind: u64,
     n: u64,
@@ -96,13 +115,10 @@ fn open_frame(
     s: u64,
     x: u64,
     period: u64,
-    seed: u64,
+    last: u64,
 ) -> Reading
-    ensures { λ r. ⌜ r ≡ openFrame code kind n i s x period seed ⌝ }
+    ensures { λ r. ⌜ r ≡ sevenWordFrame code kind n i s x period last ⌝ }
 {
-    if code != 1 {
-        return Reading::Bad;
-    }
     if NONE <= kind {
         return Reading::Bad;
     }
@@ -121,7 +137,7 @@ fn open_frame(
     if NONE <= period {
         return Reading::Bad;
     }
-    if NONE <= seed {
+    if NONE <= last {
         return Reading::Bad;
     }
     let plan = Plan {
@@ -132,10 +148,7 @@ fn open_frame(
         x: x as u32,
         period: period as u32,
     };
-    Reading::Read(Frame::Open {
-        plan: plan,
-        seed: seed as u32,
-    })
+    plan_frame(code, plan, last as u32)
 }
 
 fn frame_of(line: &[u8]) -> Reading
@@ -169,7 +182,7 @@ fn frame_of(line: &[u8]) -> Reading
         );
     }
     if n == 65 {
-        return open_frame(
+        return seven_word_frame(
             digits::hex2(line, 0),
             word(line, 0),
             word(line, 1),

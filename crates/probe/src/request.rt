@@ -9,6 +9,7 @@ use rules::Station;
 use rules::Stream;
 use rules::Tally;
 use rules::Turn;
+use rules::Waiting;
 ghost use Prim.Native.Nat.{_≤_};
 ghost use lib.ListN.{length};
 
@@ -47,19 +48,19 @@ fn digit(b: u8) -> u32
     16
 }
 
-fn store(head: &mut [u32; 38], queue: &mut [u32], at: usize, value: u32) {
-    if at < 38 {
+fn store(head: &mut [u32; 44], queue: &mut [u32], at: usize, value: u32) {
+    if at < 44 {
         head[at] = value;
         return;
     }
-    let k = at - 38;
+    let k = at - 44;
     if k < queue.len() {
         queue[k] = value;
     }
 }
 
 // One byte more: a digit goes to the word, any other byte ends it. Words beyond the queue's room are not counted.
-pub fn scanned(scan: Scan, b: u8, head: &mut [u32; 38], queue: &mut [u32]) -> Scan {
+pub fn scanned(scan: Scan, b: u8, head: &mut [u32; 44], queue: &mut [u32]) -> Scan {
     let d = digit(b);
     if d < 16 {
         return Scan {
@@ -71,7 +72,7 @@ pub fn scanned(scan: Scan, b: u8, head: &mut [u32; 38], queue: &mut [u32]) -> Sc
     if scan.digits == 0 {
         return scan;
     }
-    if scan.words > 12437 {
+    if scan.words > 12443 {
         return scan;
     }
     store(head, queue, scan.words, scan.value);
@@ -83,20 +84,20 @@ pub fn scanned(scan: Scan, b: u8, head: &mut [u32; 38], queue: &mut [u32]) -> Sc
 }
 
 pub fn whole(scan: Scan, code: u32) -> bool {
-    (38 <= scan.words) & (1 <= code) & (code <= 7)
+    (44 <= scan.words) & (1 <= code) & (code <= 8)
 }
 
 pub fn queue_words(scan: Scan, queue: &[u32]) -> usize
     ensures { λ r. ⌜ r ≤ length (now (queue .entry)) ⌝ }
 {
-    if scan.words < 38 {
+    if scan.words < 44 {
         return 0;
     }
-    let n = scan.words - 38;
+    let n = scan.words - 44;
     if n < queue.len() { n } else { queue.len() }
 }
 
-fn phase_of(h: [u32; 38]) -> Phase {
+fn phase_of(h: [u32; 44]) -> Phase {
     if h[16] == 0 {
         return Phase::Screen(Screening {
             need: h[17],
@@ -115,7 +116,29 @@ fn phase_of(h: [u32; 38]) -> Phase {
     })
 }
 
-fn station_of(h: [u32; 38]) -> Station {
+// Six zeros are no plan.
+fn waiting_of(h: [u32; 44]) -> Waiting {
+    let next = Plan {
+        kind: h[38],
+        n: h[39],
+        i: h[40],
+        s: h[41],
+        x: h[42],
+        period: h[43],
+    };
+    if (next.kind == 0)
+        & (next.n == 0)
+        & (next.i == 0)
+        & (next.s == 0)
+        & (next.x == 0)
+        & (next.period == 0)
+    {
+        return Waiting::NoPlan;
+    }
+    Waiting::Next(next)
+}
+
+fn station_of(h: [u32; 44]) -> Station {
     let plan = Plan {
         kind: h[8],
         n: h[9],
@@ -142,21 +165,35 @@ fn station_of(h: [u32; 38]) -> Station {
         next: h[37],
     };
     let phase = phase_of(h);
+    let waiting = waiting_of(h);
     let stream = Stream {
+        plan: plan,
+        waiting: waiting,
         phase: phase,
         tally: tally,
         silence: silence,
         generator: h[15],
     };
     Station {
-        plan: plan,
         room: h[14],
         stream: stream,
         numbers: numbers,
     }
 }
 
-fn opened(h: [u32; 38], q: &mut [u32]) -> Turn {
+fn changed(h: [u32; 44], s: Station, q: &mut [u32]) -> Turn {
+    let plan = Plan {
+        kind: h[1],
+        n: h[2],
+        i: h[3],
+        s: h[4],
+        x: h[5],
+        period: h[6],
+    };
+    station::change(s, q, plan, h[7] != 0)
+}
+
+fn opened(h: [u32; 44], q: &mut [u32]) -> Turn {
     let plan = Plan {
         kind: h[1],
         n: h[2],
@@ -169,7 +206,7 @@ fn opened(h: [u32; 38], q: &mut [u32]) -> Turn {
 }
 
 // The call, by its code.
-pub fn made(h: [u32; 38], q: &mut [u32]) -> Turn {
+pub fn made(h: [u32; 44], q: &mut [u32]) -> Turn {
     if h[0] == 1 {
         return opened(h, q);
     }
@@ -180,6 +217,7 @@ pub fn made(h: [u32; 38], q: &mut [u32]) -> Turn {
         4 => station::interrupt(s, q),
         5 => station::check_find(s, q),
         6 => station::tick(s, q),
+        8 => changed(h, s, q),
         _ => station::take(s, q),
     }
 }

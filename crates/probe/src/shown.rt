@@ -2,6 +2,7 @@
 use rules::Phase;
 use rules::Station;
 use rules::Turn;
+use rules::Waiting;
 ghost use Prim.Native.Nat.{_≤_};
 ghost use lib.ListN.{length};
 
@@ -64,20 +65,30 @@ fn phase_words(p: Phase) -> [u32; 11] {
     }
 }
 
-fn record_words(s: Station) -> [u32; 30] {
+// Six zeros are no plan.
+fn waiting_words(w: Waiting) -> [u32; 6] {
+    match w {
+        Waiting::NoPlan => [0, 0, 0, 0, 0, 0],
+        Waiting::Next(q) => [q.kind, q.n, q.i, q.s, q.x, q.period],
+    }
+}
+
+fn record_words(s: Station) -> [u32; 36] {
     let stream = s.stream;
     let phase = stream.phase;
     let p = phase_words(phase);
+    let waiting = stream.waiting;
+    let w = waiting_words(waiting);
     let t = stream.tally;
     let owed = flag(t.owed);
     let heard = flag(stream.silence.heard);
     [
-        s.plan.kind,
-        s.plan.n,
-        s.plan.i,
-        s.plan.s,
-        s.plan.x,
-        s.plan.period,
+        stream.plan.kind,
+        stream.plan.n,
+        stream.plan.i,
+        stream.plan.s,
+        stream.plan.x,
+        stream.plan.period,
         s.room,
         stream.generator,
         p[0],
@@ -102,6 +113,12 @@ fn record_words(s: Station) -> [u32; 30] {
         s.numbers.told,
         s.numbers.oldest,
         s.numbers.next,
+        w[0],
+        w[1],
+        w[2],
+        w[3],
+        w[4],
+        w[5],
     ]
 }
 

@@ -16,11 +16,13 @@ use rules::Screening;
 use rules::Silence;
 use rules::Station;
 use rules::Tally;
+use rules::Waiting;
 ghost use mathlib.Core.Path.{_≡_};
 ghost use Prim.Native.Nat.{_+_, _≤_};
 ghost use Rattle.rules.specs.Tests.{pick, within};
 ghost use Rattle.rules.specs.Plan.{inRange, unitLimit, roomInRange};
-ghost use Rattle.rules.specs.Sound.{one, soundTally, soundNeed, soundScreening, soundLevel, soundPlaces, rowCounts, levelBegins, soundBegin, soundRow, soundWatch, soundSampling, soundPhase, soundNumbers, soundSilence, sound};
+ghost use Rattle.rules.specs.Change.{notAllowed};
+ghost use Rattle.rules.specs.Sound.{one, soundTally, soundNeed, soundScreening, soundLevel, soundPlaces, rowCounts, levelBegins, soundBegin, soundRow, soundWatch, soundSampling, soundPhase, onItsSide, soundNext, soundWaiting, soundNumbers, soundSilence, sound};
 
 fn picked(test: bool, yes: bool, no: bool) -> bool
     ensures { λ r. ⌜ r ≡ pick test yes no ⌝ }
@@ -59,6 +61,16 @@ pub fn unit_limit(p: Plan) -> u32
     } else {
         HIGHEST_UNIT
     }
+}
+
+// Is this no plan to follow the plan in force: another type, CSP-F, or i not on the side of n?
+pub fn not_allowed(p: Plan, q: Plan) -> bool
+    ensures { λ r. ⌜ r ≡ notAllowed p q ⌝ }
+{
+    (q.kind != p.kind)
+        | (q.kind == CSP_F)
+        | ((p.n < q.n) & (q.i <= p.i))
+        | ((q.n < p.n) & (p.i <= q.i))
 }
 
 // Is this a queue's room?
@@ -175,6 +187,31 @@ fn sound_phase(p: Plan, t: Tally, phase: Phase) -> bool
     }
 }
 
+// In screening a higher frequency waits, in sampling a lower one.
+fn on_its_side(phase: Phase, p: Plan, q: Plan) -> bool
+    ensures { λ r. ⌜ r ≡ onItsSide phase p q ⌝ }
+{
+    match phase {
+        Phase::Screen(_) => (q.n < p.n) & (q.i < p.i),
+        Phase::Sample(_) => (p.n < q.n) & (p.i < q.i),
+    }
+}
+
+fn sound_next(p: Plan, phase: Phase, q: Plan) -> bool
+    ensures { λ r. ⌜ r ≡ soundNext p phase q ⌝ }
+{
+    in_range(q) & (q.kind == p.kind) & (q.kind != CSP_F) & on_its_side(phase, p, q)
+}
+
+fn sound_waiting(p: Plan, phase: Phase, w: Waiting) -> bool
+    ensures { λ r. ⌜ r ≡ soundWaiting p phase w ⌝ }
+{
+    match w {
+        Waiting::NoPlan => true,
+        Waiting::Next(q) => sound_next(p, phase, q),
+    }
+}
+
 fn sound_numbers(room: u32, n: Numbers) -> bool
     ensures { λ r. ⌜ r ≡ soundNumbers room n ⌝ }
 {
@@ -199,13 +236,15 @@ fn sound_silence(q: Silence, n: Numbers) -> bool
 pub fn is_sound(s: Station) -> bool
     ensures { λ r. ⌜ r ≡ sound s ⌝ }
 {
-    let p = s.plan;
     let stream = s.stream;
+    let p = stream.plan;
+    let waiting = stream.waiting;
     let tally = stream.tally;
     let phase = stream.phase;
     let silence = stream.silence;
     let n = s.numbers;
     in_range(p)
+        & sound_waiting(p, phase, waiting)
         & sound_tally(p, tally)
         & sound_phase(p, tally, phase)
         & sound_numbers(s.room, n)

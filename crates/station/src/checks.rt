@@ -7,7 +7,7 @@ use rules::Refusal;
 use rules::Station;
 use rules::Verdict;
 ghost use mathlib.Core.Path.{_≡_};
-ghost use Rattle.rules.specs.Calls.{refuseIf, noQueue, wrongQueue, numbersSpent, nothingToFind, openChecks, queueChecks, numbersCheck, owedCheck, unitChecks, resultChecks, findChecks, ownChecks};
+ghost use Rattle.rules.specs.Calls.{refuseIf, noQueue, wrongQueue, numbersSpent, nothingToFind, openChecks, queueChecks, numbersCheck, owedCheck, unitChecks, resultChecks, findChecks, changeChecks, ownChecks};
 
 fn refuse_if(fault: bool, r: Refusal, otherwise: Verdict) -> Verdict
     ensures { λ v. ⌜ v ≡ refuseIf fault r otherwise ⌝ }
@@ -33,7 +33,7 @@ fn wrong_queue(room: u32, len: usize) -> bool
 fn numbers_spent(next: u32) -> bool
     ensures { λ r. ⌜ r ≡ numbersSpent next ⌝ }
 {
-    (EVENTS_END as u64) < (next as u64) + 2
+    (EVENTS_END as u64) < (next as u64) + 3
 }
 
 fn nothing_to_find(phase: Phase) -> bool
@@ -82,7 +82,7 @@ fn owed_check(s: Station, rest: Verdict) -> Verdict
 }
 
 fn unit_checks(s: Station, k: u32) -> Verdict
-    ensures { λ r. ⌜ r ≡ unitChecks (s .plan) (s .stream) (s .numbers .next) k ⌝ }
+    ensures { λ r. ⌜ r ≡ unitChecks (s .stream) (s .numbers .next) k ⌝ }
 {
     owed_check(
         s,
@@ -90,7 +90,7 @@ fn unit_checks(s: Station, k: u32) -> Verdict
             k <= s.stream.tally.last,
             Refusal::NotAboveLast,
             refuse_if(
-                record::unit_limit(s.plan) < k,
+                record::unit_limit(s.stream.plan) < k,
                 Refusal::AboveLimit,
                 Verdict::Accept,
             ),
@@ -126,9 +126,26 @@ fn find_checks(s: Station) -> Verdict
     )
 }
 
+fn change_checks(s: Station, q: Plan) -> Verdict
+    ensures { λ r. ⌜ r ≡ changeChecks (s .stream) (s .numbers .next) q ⌝ }
+{
+    owed_check(
+        s,
+        refuse_if(
+            record::not_allowed(s.stream.plan, q),
+            Refusal::ChangeNotAllowed,
+            refuse_if(
+                !record::in_range(q),
+                Refusal::PlanOutOfRange,
+                Verdict::Accept,
+            ),
+        ),
+    )
+}
+
 // The checks of a call after 1 and 2.
 pub fn own_checks(call: Call, s: Station) -> Verdict
-    ensures { λ r. ⌜ r ≡ ownChecks call (s .plan) (s .stream) (s .numbers .next) ⌝ }
+    ensures { λ r. ⌜ r ≡ ownChecks call (s .stream) (s .numbers .next) ⌝ }
 {
     match call {
         Call::Unit(k) => unit_checks(s, k),
@@ -137,5 +154,6 @@ pub fn own_checks(call: Call, s: Station) -> Verdict
         Call::CheckFind => find_checks(s),
         Call::Tick => numbers_check(s, Verdict::Accept),
         Call::Take => Verdict::Accept,
+        Call::Change { plan, demand: _ } => change_checks(s, plan),
     }
 }

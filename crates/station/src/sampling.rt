@@ -141,13 +141,13 @@ pub fn sampled_good(p: Plan, unit: u32, m: Sampling) -> Moved
     quiet(Phase::Sample(m))
 }
 
-fn need_after_sampling(p: Plan, row: u32) -> u32
-    ensures { λ r. ⌜ r ≡ needAfterSampling p row ⌝ }
+fn need_after_sampling(p: Plan, q: Plan, row: u32) -> u32
+    ensures { λ r. ⌜ r ≡ needAfterSampling p q row ⌝ }
 {
     if (p.kind == CSP_V) & (p.i <= row) {
-        p.x
+        q.x
     } else {
-        p.i
+        q.i
     }
 }
 
@@ -171,8 +171,8 @@ fn revert(need: u32, unit: u32) -> Moved
     }
 }
 
-pub fn sampled_bad(p: Plan, unit: u32, m: Sampling) -> Moved
-    ensures { λ r. ⌜ r ≡ sampledBad p unit m ⌝ }
+pub fn sampled_bad(p: Plan, q: Plan, unit: u32, m: Sampling) -> Moved
+    ensures { λ r. ⌜ r ≡ sampledBad p q unit m ⌝ }
 {
     if (p.kind == CSP_2) & !m.watch {
         return Moved {
@@ -184,5 +184,5 @@ pub fn sampled_bad(p: Plan, unit: u32, m: Sampling) -> Moved
             }),
         };
     }
-    revert(need_after_sampling(p, m.row), unit)
+    revert(need_after_sampling(p, q, m.row), unit)
 }

@@ -1,4 +1,7 @@
 // What each call makes of the stream (document 01, "Missed units and silence" and the sections before it).
+use crate::letter::at_shift;
+use crate::letter::sequence_plan;
+use crate::letter::up_next;
 use crate::sampling::arrived_sampling;
 use crate::sampling::sampled_bad;
 use crate::sampling::sampled_good;
@@ -20,18 +23,21 @@ use rules::Screening;
 use rules::Silence;
 use rules::Stream;
 use rules::Tally;
+use rules::Waiting;
 ghost use mathlib.Core.Path.{_≡_};
 ghost use mathlib.Core.Bool.{true, false};
 ghost use Prim.Native.Nat.{_+_, _≤_, _<_};
-ghost use Rattle.rules.specs.Stream.{freshStream, missedTally, jumped, arrived, arrivedTally, arrivedStream, handled, unitRule, resultPhase, resultTally, resultMoved, resultRule, withPhase, interruptRule, findRule, withSilence, tickRule};
+ghost use Rattle.rules.specs.Stream.{freshStream, missedTally, withTally, restarted, jumped, arrived, arrivedTally, arrivedStream, handled, unitRule, resultPhase, resultTally, resultMoved, resultRule, withPhase, interruptRule, findRule, withSilence, tickRule};
 ghost use Rattle.rules.specs.Plan.{unitLimit, eventLimit, highestUnit};
-ghost use Rattle.rules.proofs.Facts.{PlanFacts};
-ghost use Rattle.station.specs.Fit.{Findable, Countable, Placed, StreamFit};
+ghost use Rattle.rules.proofs.Facts.{PlanFacts, StreamFacts};
+ghost use Rattle.station.specs.Fit.{Findable, Countable, Placed};
 
 pub fn fresh_stream(p: Plan, seed: u32) -> Stream
     ensures { λ r. ⌜ r ≡ freshStream p seed ⌝ }
 {
     Stream {
+        plan: p,
+        waiting: Waiting::NoPlan,
         phase: start_screening(p.i),
         tally: Tally {
             conforming: 0,
@@ -58,30 +64,60 @@ fn missed_tally(k: u32, t: Tally) -> Tally
     missed
 }
 
+fn with_phase(phase: Phase, s: Stream) -> Stream
+    ensures { λ r. ⌜ r ≡ withPhase phase s ⌝ }
+{
+    let plan = s.plan;
+    let waiting = s.waiting;
+    let tally = s.tally;
+    let silence = s.silence;
+    Stream {
+        plan,
+        waiting,
+        phase,
+        tally,
+        silence,
+        generator: s.generator,
+    }
+}
+
+fn with_tally(tally: Tally, s: Stream) -> Stream
+    ensures { λ r. ⌜ r ≡ withTally tally s ⌝ }
+{
+    let mut left = s;
+    left.tally = tally;
+    left
+}
+
+// A new screening sequence; one that ends sampling takes up a plan that waits.
+fn restart(cause: Event, unit: u32, s: Stream) -> Ruled
+    ensures { λ r. ⌜ r ≡ restarted cause unit s ⌝ }
+{
+    let phase = s.phase;
+    let waiting = s.waiting;
+    let p = s.plan;
+    let next = sequence_plan(phase, waiting, p);
+    let ruled = Ruled {
+        stream: with_phase(start_screening(next.i), s),
+        raised: restart_raised(cause, unit, phase),
+    };
+    at_shift(unit, phase, ruled)
+}
+
 // The units between the last and k are missed.
-fn jump(p: Plan, k: u32, s: Stream) -> Ruled
+fn jump(k: u32, s: Stream) -> Ruled
     requires { ⌜ (s .tally .last < k) × (k ≤ highestUnit) × (s .tally .missed ≤ highestUnit) ⌝ }
-    ensures { λ r. ⌜ r ≡ jumped p k s ⌝ }
+    ensures { λ r. ⌜ r ≡ jumped k s ⌝ }
 {
     let t = s.tally;
     let first = t.last + 1;
     if first < k {
-        let phase = s.phase;
         let cause = Event {
             kind: Kind::Missed,
             unit: first,
             value: k - first,
         };
-        let silence = s.silence;
-        return Ruled {
-            stream: Stream {
-                phase: start_screening(p.i),
-                tally: missed_tally(k, t),
-                silence,
-                generator: s.generator,
-            },
-            raised: restart_raised(cause, k, phase),
-        };
+        return restart(cause, k, with_tally(missed_tally(k, t), s));
     }
     Ruled {
         stream: s,
@@ -122,11 +158,15 @@ fn arrived_stream(k: u32, a: Arrived, s: Stream) -> Stream
     requires { ⌜ s .tally .passed ≤ highestUnit ⌝ }
     ensures { λ r. ⌜ r ≡ arrivedStream k a s ⌝ }
 {
+    let plan = s.plan;
+    let waiting = s.waiting;
     let phase = a.phase;
     let t = s.tally;
     let silence = s.silence;
     let tally = arrived_tally(k, a.inspect, t);
     Stream {
+        plan,
+        waiting,
         phase,
         tally,
         silence: Silence {
@@ -138,11 +178,12 @@ fn arrived_stream(k: u32, a: Arrived, s: Stream) -> Stream
 }
 
 // What was missed, then unit k.
-fn handle(p: Plan, k: u32, j: Ruled) -> Ruled
-    requires { ⌜ PlanFacts p × Placed (j .stream .phase) × (j .stream .tally .passed ≤ highestUnit) ⌝ }
-    ensures { λ r. ⌜ r ≡ handled p k j ⌝ }
+fn handle(k: u32, j: Ruled) -> Ruled
+    requires { ⌜ PlanFacts (j .stream .plan) × Placed (j .stream .phase) × (j .stream .tally .passed ≤ highestUnit) ⌝ }
+    ensures { λ r. ⌜ r ≡ handled k j ⌝ }
 {
     let s = j.stream;
+    let p = s.plan;
     let phase = s.phase;
     let raised = j.raised;
     let a = arrive(p, s.generator, phase);
@@ -152,16 +193,16 @@ fn handle(p: Plan, k: u32, j: Ruled) -> Ruled
     }
 }
 
-pub fn unit_rule(p: Plan, k: u32, s: Stream) -> Ruled
-    requires { ⌜ StreamFit p s × (s .tally .last < k) × (k ≤ unitLimit p) ⌝ }
-    ensures { λ r. ⌜ r ≡ unitRule p k s ⌝ }
+pub fn unit_rule(k: u32, s: Stream) -> Ruled
+    requires { ⌜ StreamFacts s × (s .tally .owed ≡ false) × (s .tally .last < k) × (k ≤ unitLimit (s .plan)) ⌝ }
+    ensures { λ r. ⌜ r ≡ unitRule k s ⌝ }
 {
-    handle(p, k, jump(p, k, s))
+    handle(k, jump(k, s))
 }
 
-fn screened_result(p: Plan, unit: u32, r: u32, c: Screening) -> Moved
+fn screened_result(p: Plan, next: Plan, unit: u32, r: u32, c: Screening) -> Moved
     requires { ⌜ Countable (Phase.Screen c) ⌝ }
-    ensures { λ q. ⌜ q ≡ resultPhase p unit r (Phase.Screen c) ⌝ }
+    ensures { λ q. ⌜ q ≡ resultPhase p next unit r (Phase.Screen c) ⌝ }
 {
     if r == 0 {
         screened_good(unit, c)
@@ -170,24 +211,24 @@ fn screened_result(p: Plan, unit: u32, r: u32, c: Screening) -> Moved
     }
 }
 
-fn sampled_result(p: Plan, unit: u32, r: u32, m: Sampling) -> Moved
+fn sampled_result(p: Plan, next: Plan, unit: u32, r: u32, m: Sampling) -> Moved
     requires { ⌜ Countable (Phase.Sample m) ⌝ }
-    ensures { λ q. ⌜ q ≡ resultPhase p unit r (Phase.Sample m) ⌝ }
+    ensures { λ q. ⌜ q ≡ resultPhase p next unit r (Phase.Sample m) ⌝ }
 {
     if r == 0 {
         sampled_good(p, unit, m)
     } else {
-        sampled_bad(p, unit, m)
+        sampled_bad(p, next, unit, m)
     }
 }
 
-fn result_phase(p: Plan, unit: u32, r: u32, phase: Phase) -> Moved
+fn result_phase(p: Plan, next: Plan, unit: u32, r: u32, phase: Phase) -> Moved
     requires { ⌜ Countable phase ⌝ }
-    ensures { λ q. ⌜ q ≡ resultPhase p unit r phase ⌝ }
+    ensures { λ q. ⌜ q ≡ resultPhase p next unit r phase ⌝ }
 {
     match phase {
-        Phase::Screen(c) => screened_result(p, unit, r, c),
-        Phase::Sample(m) => sampled_result(p, unit, r, m),
+        Phase::Screen(c) => screened_result(p, next, unit, r, c),
+        Phase::Sample(m) => sampled_result(p, next, unit, r, m),
     }
 }
 
@@ -205,54 +246,41 @@ fn result_tally(r: u32, t: Tally) -> Tally
     judged
 }
 
-pub fn result_rule(p: Plan, r: u32, s: Stream) -> Ruled
-    requires { ⌜ StreamFit p s × (s .tally .owed ≡ true) ⌝ }
-    ensures { λ q. ⌜ q ≡ resultRule p r s ⌝ }
+fn result_moved(r: u32, m: Moved, s: Stream) -> Ruled
+    requires { ⌜ (s .tally .conforming ≤ highestUnit) × (s .tally .defective ≤ highestUnit) ⌝ }
+    ensures { λ q. ⌜ q ≡ resultMoved r m s ⌝ }
 {
     let t = s.tally;
-    let phase = s.phase;
-    let silence = s.silence;
-    let m = result_phase(p, t.last, r, phase);
-    let moved = m.phase;
+    let phase = m.phase;
     let raised = m.raised;
     Ruled {
-        stream: Stream {
-            phase: moved,
-            tally: result_tally(r, t),
-            silence,
-            generator: s.generator,
-        },
+        stream: with_phase(phase, with_tally(result_tally(r, t), s)),
         raised,
     }
 }
 
-fn with_phase(phase: Phase, s: Stream) -> Stream
-    ensures { λ r. ⌜ r ≡ withPhase phase s ⌝ }
+pub fn result_rule(r: u32, s: Stream) -> Ruled
+    requires { ⌜ StreamFacts s × (s .tally .owed ≡ true) ⌝ }
+    ensures { λ q. ⌜ q ≡ resultRule r s ⌝ }
 {
-    let tally = s.tally;
-    let silence = s.silence;
-    Stream {
-        phase,
-        tally,
-        silence,
-        generator: s.generator,
-    }
+    let p = s.plan;
+    let waiting = s.waiting;
+    let last = s.tally.last;
+    let phase = s.phase;
+    let m = result_phase(p, up_next(waiting, p), last, r, phase);
+    at_shift(last, phase, result_moved(r, m, s))
 }
 
-pub fn interrupt_rule(p: Plan, s: Stream) -> Ruled
-    ensures { λ r. ⌜ r ≡ interruptRule p s ⌝ }
+pub fn interrupt_rule(s: Stream) -> Ruled
+    ensures { λ r. ⌜ r ≡ interruptRule s ⌝ }
 {
-    let phase = s.phase;
     let last = s.tally.last;
     let cause = Event {
         kind: Kind::Interrupt,
         unit: last,
         value: 0,
     };
-    Ruled {
-        stream: with_phase(start_screening(p.i), s),
-        raised: restart_raised(cause, last, phase),
-    }
+    restart(cause, last, s)
 }
 
 pub fn find_rule(s: Stream) -> Ruled
@@ -274,17 +302,13 @@ pub fn find_rule(s: Stream) -> Ruled
 fn with_silence(ticks: u32, s: Stream) -> Stream
     ensures { λ r. ⌜ r ≡ withSilence (record { ticks = ticks; heard = false }) s ⌝ }
 {
-    let tally = s.tally;
-    let phase = s.phase;
-    Stream {
-        phase,
-        tally,
-        silence: Silence {
-            ticks,
-            heard: false,
-        },
-        generator: s.generator,
-    }
+    let silence = Silence {
+        ticks,
+        heard: false,
+    };
+    let mut left = s;
+    left.silence = silence;
+    left
 }
 
 pub fn tick_rule(s: Stream) -> Ruled

@@ -20,6 +20,9 @@ returns-5 c = rw (c .before .enum-told3 .given .1) (c .numbers-check .ensures)
 returns-6 : tie.Need-returns-6
 returns-6 c = rw (c .enum-told4 .given .1)
 
+returns-7 : tie.Need-returns-7
+returns-7 c = rw (c .before .before .call3 .given .1) (c .change-checks .ensures)
+
 pub own-checks-spec : {M : Type 1} → statement M
 own-checks-spec =
     tie.close
@@ -35,9 +38,12 @@ own-checks-spec =
     (λ c. search needs)
     (λ c κs. search needs)
     (λ c. search needs)
+    (λ c. search needs)
+    (λ c κs. search needs)
     returns
     returns-2
     returns-3
     returns-4
     returns-5
-    returns-6)
+    returns-6
+    returns-7)

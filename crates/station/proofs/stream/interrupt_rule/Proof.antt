@@ -6,6 +6,4 @@ returns : tie.Need-returns
 returns c = cc
 
 pub interrupt-rule-spec : {M : Type 1} → statement M
-interrupt-rule-spec =
-    tie.close
-    (tie.spec (λ c κs. search needs) (λ c κs. search needs) (λ c κs. search needs) returns)
+interrupt-rule-spec = tie.close (tie.spec (λ c κs. search needs) returns)

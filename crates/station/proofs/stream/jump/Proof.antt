@@ -6,7 +6,7 @@ use Rattle.station.proofs.stream.jump.Tie as tie
 
 returns : tie.Need-returns
 unfolding jumped
-returns c = simp (lt-ltb _ _ (c .before .before .before .before .if1 .taken), c .restart-raised .ensures, c .before .missed-tally .ensures, c .before .before .start-screening .ensures)
+returns c = simp (lt-ltb _ _ (c .before .before .before .if1 .taken), c .restart .ensures, c .before .with-tally .ensures, c .before .before .missed-tally .ensures)
 
 returns-2 : tie.Need-returns-2
 unfolding jumped
