@@ -4,7 +4,7 @@ use Rattle.station.proofs.stream.unit_rule.Statement.{statement}
 use Rattle.station.proofs.stream.unit_rule.Tie as tie
 
 handle-requires : tie.Need-handle-requires
-handle-requires c κs = let s = c .before in rw (c .jump .ensures) (jumped-fit _ _ (s .pre .0) (s .pre .1) (s .pre .2) (s .pre .3))
+handle-requires c κs = let s = c .before in rw (c .jump .ensures) (jumped-fit _ _ (s .pre .0) (s .pre .1))
 
 returns : tie.Need-returns
 returns c = cc
