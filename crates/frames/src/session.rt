@@ -10,7 +10,6 @@ use rules::Reading;
 use rules::Refusal;
 use rules::Station;
 use rules::Turn;
-use rules::Waiting;
 ghost use mathlib.Core.Path.{_≡_};
 ghost use mathlib.Core.Bool.{true, false};
 ghost use Rattle.rules.specs.Calls.{openCall, outcome};
