@@ -6,6 +6,7 @@
 #include <stdio.h>
 
 enum {
+    CALLS = 8,
     ARGUMENTS = 7,
     HEAD_WORDS = 1 + ARGUMENTS + STATION_WORDS,
     QUEUE_WORDS = 12400,
@@ -45,7 +46,8 @@ static struct answer make_call(struct station *st, struct memory mem)
     case 4:  return station_interrupt(st, mem);
     case 5:  return station_check_find(st, mem);
     case 6:  return station_tick(st, mem);
-    default: return station_take(st, mem);
+    case 7:  return station_take(st, mem);
+    default: return station_change(st, mem, &plan, w[6] != 0);
     }
 }
 
@@ -91,7 +93,7 @@ static int answer_line(const char *line, size_t length)
     struct station st;
     struct answer a;
 
-    if (count < HEAD_WORDS || request[0] < 1 || request[0] > 7) {
+    if (count < HEAD_WORDS || request[0] < 1 || request[0] > CALLS) {
         fputs("second: probe: not a request\n", stderr);
         return 0;
     }

@@ -1,4 +1,4 @@
-/* The station of document 01: one plan over one stream of units. */
+/* The station of document 01, with the change of plan of document 02, W1. */
 #ifndef STATION_H
 #define STATION_H
 
@@ -9,7 +9,8 @@ enum plan_type { CSP_1 = 1, CSP_2, CSP_F, CSP_T, CSP_V };
 enum phase { SCREENING, SAMPLING };
 
 enum event_kind {
-    START = 1, PHASE, LONG, DEFECT, MISSED, SILENCE, CHECK, INTERRUPT, GAP
+    START = 1, PHASE, LONG, DEFECT, MISSED, SILENCE, CHECK, INTERRUPT, GAP,
+    PLAN
 };
 
 enum refusal {
@@ -23,7 +24,8 @@ enum refusal {
     UNIT_OVER_LIMIT = 7,
     NOTHING_TO_RECALL = 8,
     ILL_FORMED = 9,
-    NUMBERS_SPENT = 10
+    NUMBERS_SPENT = 10,
+    CHANGE_NOT_ALLOWED = 11
 };
 
 struct plan {
@@ -32,7 +34,7 @@ struct plan {
 
 /* All fields are 32-bit words, in the order in which the probe gives them. */
 struct station {
-    struct plan plan;
+    struct plan plan;                            /* in force */
     uint32_t room;                               /* C, entries of the queue */
     uint32_t generator;                          /* s */
     uint32_t phase;
@@ -42,11 +44,12 @@ struct station {
     uint32_t conforming, defective, passed, missed, owed, last;
     uint32_t silent, heard;
     uint32_t told, oldest, next;                 /* d, o, e */
+    struct plan waiting;                         /* six zeros: none waits */
 };
 
-enum { STATION_WORDS = 30 };
+enum { STATION_WORDS = 36 };
 _Static_assert(sizeof(struct station) == STATION_WORDS * sizeof(uint32_t),
-               "a record is 30 words");
+               "a record is 36 words");
 
 /* The queue memory lent by the caller. */
 struct memory {
@@ -66,6 +69,8 @@ struct answer station_interrupt(struct station *st, struct memory mem);
 struct answer station_check_find(struct station *st, struct memory mem);
 struct answer station_tick(struct station *st, struct memory mem);
 struct answer station_take(struct station *st, struct memory mem);
+struct answer station_change(struct station *st, struct memory mem,
+                             const struct plan *plan, int demand);
 
 /* Fills in the plan of a table; 0 when there is no such entry. */
 int table_plan(uint32_t type, uint32_t letter, uint32_t aql, uint32_t N,
