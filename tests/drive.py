@@ -2,19 +2,22 @@
 
 import random
 
-from model import CSP_F, CSP_T, CSP_V, SCREENING, TABLE_V_AQL, UNIT_LIMIT, refused, sound, written
-from reached import Watcher
+from model import CSP_F, CSP_T, CSP_V, SAMPLING, SCREENING, TABLE_V_AQL, UNIT_LIMIT, refused, sound, written
+from reached import Watcher, waits
 from script import Script, words
 
 # How often each call comes when no result is owed. A line of work is mostly units; each profile leans one way.
-CALLS = ('unit', 'jump', 'interrupt', 'find', 'tick', 'take', 'refused', 'ill_formed')
+CALLS = ('unit', 'stretch', 'jump', 'interrupt', 'find', 'tick', 'take', 'change', 'refused', 'ill_formed')
 PROFILES = {
-    'work': (80, 1, 1, 2, 4, 10, 1, 1),
-    'journal': (40, 3, 3, 3, 10, 40, 1, 1),
-    'quiet': (20, 2, 2, 2, 60, 4, 1, 1),
-    'rough': (50, 10, 10, 15, 5, 10, 2, 2),
-    'hostile': (40, 3, 3, 5, 5, 10, 20, 20),
+    'work': (70, 3, 1, 1, 2, 4, 10, 1, 1, 1),
+    'journal': (40, 1, 3, 3, 3, 10, 40, 3, 1, 1),
+    'quiet': (20, 1, 2, 2, 2, 60, 4, 2, 1, 1),
+    'rough': (50, 1, 10, 10, 15, 5, 10, 5, 2, 2),
+    'changing': (40, 8, 2, 2, 3, 3, 10, 10, 1, 1),
+    'hostile': (40, 1, 3, 3, 5, 5, 10, 5, 20, 20),
 }
+# The new n and i beside those in force: below (-1), equal (0) or above (1). The last ones are not allowed.
+SIDES = ((-1, -1), (1, 1)) * 5 + ((0, 0), (0, 1), (0, -1), (-1, 0), (-1, 1), (1, 0), (1, -1))
 SEEDS = (0, 1, 2 ** 31, 2 ** 32 - 1)
 ODD_NUMBERS = (0, 1, 2, 3, 7, 8, 9, 200, 201, 10_000, UNIT_LIMIT, UNIT_LIMIT + 1, 2 ** 31, 2 ** 32 - 1)
 
@@ -74,21 +77,36 @@ class Driver(Script):
             self.bad_share = self.random.choice((0.0, 0.0, 0.05, 0.3, 0.8))
         if self.station.owed and self.chance(0.9):
             self.result(1 if self.chance(max(self.bad_share, self.luck())) else 0)
-        elif self.recallable() and self.chance(0.5):
+        elif self.recallable() and self.chance(0.2):
             self.find()
+        elif self.chance(self.wish()):
+            self.do_change()
         else:
             getattr(self, 'do_' + self.random.choices(CALLS, self.weights)[0])()
 
     def luck(self):
-        """A defect where one seldom falls by itself: at a higher level, after i good samples under CSP-V, under need x."""
+        """A defect where one seldom falls by itself."""
         st = self.station
-        rare = st.level or (st.type == CSP_V and st.row == st.i) or (st.phase == SCREENING and st.need < st.i)
-        return 0.2 if rare else 0.0
+        if st.level or self.long_row() or (st.phase == SAMPLING and waits(st)):
+            return 0.2
+        return 0.1 if self.reduced() else 0.0
+
+    def wish(self):
+        """A change where one seldom falls by itself, or a second one."""
+        st = self.station
+        if self.reduced() and not waits(st):
+            return 0.5
+        return 0.15 if st.level or self.long_row() or st.watched or waits(st) else 0.0
+
+    def long_row(self):
+        return self.station.type == CSP_V and self.station.row == self.station.i
+
+    def reduced(self):
+        return self.station.phase == SCREENING and self.station.need < self.station.i
 
     def recallable(self):
         """A find under need x seldom comes by itself."""
-        st = self.station
-        return not st.owed and st.unrecalled and st.need < st.i
+        return not self.station.owed and self.station.unrecalled and self.reduced()
 
     # ---- Opens
 
@@ -103,10 +121,10 @@ class Driver(Script):
 
     def open_plan(self):
         type = self.random.randrange(1, 6)
-        n = self.random.choice((2, 2, 2, 3, 4, 5, 7, self.random.randrange(2, 201)))
+        n = self.random.choice((2, 2, 3, 3, 4, 5, 7, self.random.randrange(2, 201)))
         i = self.random.choice((1, 2, 2, 3, 3, 4, 6, self.random.randrange(1, 40)))
         S = 0 if type == CSP_F else i + self.random.randrange(12)
-        x = self.random.randrange(1, i + 1) if type == CSP_V else 0
+        x = min(i, self.random.choice((1, 2, self.random.randrange(1, i + 1)))) if type == CSP_V else 0
         N = self.random.choice((self.random.randrange(1, 150), UNIT_LIMIT)) if type == CSP_F else 0
         self.open(type, n, i, S, x, N, self.seed())
 
@@ -126,7 +144,8 @@ class Driver(Script):
         self.table(*self.random.choices(ODD_NUMBERS, k=3), N=UNIT_LIMIT + 1)
 
     def early_call(self):
-        self.line(self.random.choice((words(2, 1), words(3, 0), words(3, 2), words(4), words(5), words(6), words(7))))
+        change = words(9, 1, 2, 1, 1, 0, 0, 1)
+        self.line(self.random.choice((words(2, 1), words(3, 0), words(3, 2), words(4), words(5), words(6), words(7), change)))
 
     # ---- Calls on an open station
 
@@ -139,6 +158,16 @@ class Driver(Script):
 
     def do_unit(self):
         self.unit()
+
+    def do_stretch(self):
+        """Good units alone, as far as a rare place: levels, long rows and the ends of watches lie beyond many of them."""
+        for _ in range(80):
+            if self.station.owed:
+                self.result(0)
+            elif self.station.level == 2 or self.long_row() or self.station.last == self.limit():
+                break
+            else:
+                self.unit()
 
     def do_jump(self):
         self.unit(self.station.last + self.random.choice((2, 2, 3, 10, 1000)))
@@ -154,6 +183,24 @@ class Driver(Script):
 
     def do_take(self):
         self.take(self.random.choice((1, 1, 2, 10)))
+
+    def do_change(self):
+        st = self.station
+        n_side, i_side = self.random.choice(SIDES)
+        n, i = self.beside(st.n, n_side, 2), self.beside(st.i, i_side, 1)
+        if self.chance(0.03):
+            i = 10_001
+        S = 0 if st.type == CSP_F else i + self.random.randrange(12)
+        x = self.random.randrange(1, i + 1) if st.type == CSP_V and i else 0
+        plan = [st.type, n, i, S, x, st.N]
+        if self.chance(0.1):
+            plan[self.random.randrange(6)] = self.random.choice((*ODD_NUMBERS, 4, 5, 6, 100_001))
+        self.change(*plan, demand=1 if self.chance(0.3) else 0)
+
+    def beside(self, number, side, least):
+        """A number near another on that side; out of range where there is none between it and the least."""
+        other = max(0, number + side * self.random.choice((1, 1, 2, 5)))
+        return max(other, least) if number > least else other
 
     def do_refused(self):
         """Calls that a sound line would not send, though the state may allow some."""
@@ -173,8 +220,8 @@ class Driver(Script):
 
     def ill_formed(self):
         """A good line with one thing wrong in it, or a line of bytes."""
-        plan, table = words(1, 1, 2, 3, 4, 0, 0, 0xABCDEF), words(8, 4, 1, 400, 0)
-        good = self.random.choice((plan, table, words(2, 0xA1), words(3, 0xF), words(7)))
+        plan, table, change = words(1, 1, 2, 3, 4, 0, 0, 0xABCDEF), words(8, 4, 1, 400, 0), words(9, 1, 2, 3, 4, 0, 0, 1)
+        good = self.random.choice((plan, table, change, words(2, 0xA1), words(3, 0xF), words(7)))
         at = self.random.randrange(len(good) + 1)
         self.line(self.random.choice((
             good.lower() + b'a',
@@ -183,6 +230,7 @@ class Driver(Script):
             good + self.random.choice((b'\r', b' ', b'0', b' 00000000 00000000 00000000')),
             good + b' ' * self.random.choice((79, 80, 81, 500)),
             good[:at].rstrip() + b'-',
+            words(9, 1, 2, 3, 4, 0, 0, self.random.choice((2, 256, 2 ** 31, 2 ** 32 - 1))),
             bytes(self.random.choice(range(11, 256)) for _ in range(self.random.randrange(100))),
             b'',
         )))

@@ -4,13 +4,13 @@ from collections import Counter, namedtuple
 from operator import attrgetter
 
 from model import (
-    CHECK, CSP_2, CSP_F, CSP_T, CSP_V, DEFECT, INTERRUPT, LONG, MARKER, MISSED, PHASE, SAMPLING, SCREENING, SILENCE, START,
-    UNIT_LIMIT, read_frame,
+    CHANGE, CHECK, CSP_2, CSP_F, CSP_T, CSP_V, DEFECT, INTERRUPT, LONG, MARKER, MISSED, NO_PLAN, PHASE, PLAN, SAMPLING, SCREENING,
+    SILENCE, START, UNIT_LIMIT, WAITING_FIELDS, read_frame, waiting_plan,
 )
 
 SEEN = (
-    'type', 'i', 'S', 'x', 'N', 'phase', 'need', 'run', 'screened', 'unrecalled', 'level', 'row', 'watch',
-    'owed', 'last', 'silent', 'heard', 'told', 'oldest', 'next',
+    'type', 'n', 'i', 'S', 'x', 'N', 'phase', 'need', 'run', 'screened', 'unrecalled', 'level', 'place', 'row', 'watch', 'watched',
+    'owed', 'last', 'silent', 'heard', 'told', 'oldest', 'next', *WAITING_FIELDS,
 )
 View = namedtuple('View', SEEN)
 look = attrgetter(*SEEN)
@@ -18,15 +18,72 @@ look = attrgetter(*SEEN)
 PLANS = {1: 'CSP-1', 2: 'CSP-2', 3: 'CSP-F', 4: 'CSP-T', 5: 'CSP-V'}
 KINDS = {
     START: 'START', PHASE: 'PHASE', LONG: 'LONG', DEFECT: 'DEFECT', MISSED: 'MISSED', SILENCE: 'SILENCE',
-    CHECK: 'CHECK', INTERRUPT: 'INTERRUPT', MARKER: 'marker',
+    CHECK: 'CHECK', INTERRUPT: 'INTERRUPT', MARKER: 'marker', PLAN: 'PLAN',
 }
+PHASES = {SCREENING: 'screening', SAMPLING: 'sampling'}
+
+# ---- The names of changes, for random sessions and for the probe
+
+CHANGEABLE = [plan for type, plan in PLANS.items() if type != CSP_F]
+WAYS = [f'{frequency} frequency{demand}' for frequency in ('higher', 'lower', 'equal') for demand in ('', ' on demand')]
+# With a plan waiting, a request replaces it, clears it, or leaves it where the frequency is equal.
+CHANGES = (
+    *(f'{way} in {phase} under {plan}' for way in WAYS for phase in PHASES.values() for plan in CHANGEABLE),
+    *(f'{way} in {phase}, {who} waiting' for way in WAYS for phase in PHASES.values() for who in ('a plan', 'none')),
+)
+WHY_NOT_ALLOWED = ('type differs', 'CSP-F', 'n rises and i does not', 'n falls and i does not')
+NOT_IN_RANGE = ('n below 2', 'n above 200', 'i below 1', 'i above 10,000', 'S below i', 'S above 100,000', 'x', 'N')
+CHANGES_REFUSED = (
+    *(f'change 11: {reason}' for reason in WHY_NOT_ALLOWED),
+    *(f'change 3: {number}' for number in NOT_IN_RANGE),
+)
+
+
+def waits(st):
+    return waiting_plan(st) != NO_PLAN
+
+
+def change_as(st, plan, demand):
+    """What a change that is taken is called: by the plan's type, and by what was waiting."""
+    n = plan[1]
+    frequency = 'higher' if n < st.n else 'lower' if n > st.n else 'equal'
+    way = f'{frequency} frequency{" on demand" if demand else ""} in {PHASES[st.phase]}'
+    return f'{way} under {PLANS[st.type]}', f'{way}, {"a plan" if waits(st) else "none"} waiting'
+
+
+def change_refused_as(st, plan, refusal):
+    """Why a change is refused 11 or 3, where there is one reason alone: another could not speak for it."""
+    reasons = {11: why_not_allowed(st, *plan[:3]), 3: why_not_in_range(*plan)}.get(refusal, [])
+    return [f'change {refusal}: {reason}' for reason in reasons] if len(reasons) == 1 else []
+
+
+def why_not_allowed(st, type, n, i):
+    holds = (type != st.type, type == st.type == CSP_F, n > st.n and i <= st.i, n < st.n and i >= st.i)
+    return [reason for reason, here in zip(WHY_NOT_ALLOWED, holds) if here]
+
+
+def why_not_in_range(type, n, i, S, x, N):
+    """For the types that a change can be asked of."""
+    x_wrong = not 1 <= x <= i if type == CSP_V else x != 0
+    holds = (n < 2, n > 200, i < 1, i > 10_000, S < i, S > 100_000, x_wrong, N != 0)
+    return [number for number, here in zip(NOT_IN_RANGE, holds) if here]
+
+
+# ---- The goals
+
+# Where a waiting plan is taken up, and what looks like such a place and is none.
+PLACES = ('the shift to sampling', 'a reverting defect', 'a missed stretch', 'an interrupt')
+NO_PLACES = (
+    'unit in screening', 'jump in screening', 'interrupt in screening', 'find', 'defect in screening', 'tick in screening',
+    'unit in sampling', 'a level begins', 'watch starts', 'watch ends', 'tick in sampling',
+)
 
 # What a run must reach at least once. Refusal 1 needs another memory and 10 eight million events: neither is a
 # matter of random frames, and other parts reach both.
 GOALS = (
     *(f'opened {plan}' for plan in PLANS.values()),
     'Table V with seed', 'Table V without seed', 'Table III-A-4 with seed', 'Table III-A-4 without seed',
-    *(f'refusal {number}' for number in range(2, 10)),
+    *(f'refusal {number}' for number in (*range(2, 10), 11)),
     'ill-formed frame', 'open after an open', 'result neither 0 nor 1',
     *(f'{plan} sampling' for plan in PLANS.values()),
     *(f'{plan} reverts' for plan in PLANS.values()),
@@ -40,6 +97,20 @@ GOALS = (
     'silence begins', 'silence goes on', 'tick after a unit', 'tick while owed',
     'gap begins', 'gap widens', 'two drops in one call', 'marker of more than two',
     *(f'taken {kind}' for kind in KINDS.values()), 'nothing to take',
+    *CHANGES, *CHANGES_REFUSED,
+    'change before an open', 'demand neither 0 nor 1', 'change while owed', 'refused change, a plan waiting',
+    'change before the first unit', 'change in a silence',
+    'new plan between the waiting one and the one in force', 'waiting plan replaced by another',
+    'change at once keeps a run', 'change at once ends need x', 'LONG by the new S alone', 'no LONG by the new S alone',
+    'change at once within a block', 'change at once, watch on', 'change at once, no watch',
+    'change at once at level 1', 'change at once at level 2', 'change on demand, watch on',
+    'change on demand at level 1', 'change on demand at level 2', 'change on demand, row at i',
+    *(f'taken up at {place} under {plan}' for place in PLACES for plan in CHANGEABLE),
+    'taken up from need x', 'taken up from level 1', 'taken up from level 2',
+    'CSP-V reverts to the new x', 'CSP-V reverts to the new i',
+    'jump to the new i after i good samples', 'interrupt to the new i after i good samples',
+    *(f'not taken up: {turn}' for turn in NO_PLACES),
+    'three events in one call', 'three drops in one call',
 )
 
 
@@ -49,9 +120,10 @@ class Watcher:
     def __init__(self):
         self.count = Counter()
         self.watches = 0
+        self.old_S = 0
         self.calls = {
             1: self.opened, 2: self.unit, 3: self.result, 4: self.interrupt, 5: self.find, 6: self.tick, 7: self.take,
-            8: self.opened,
+            8: self.opened, CHANGE: self.changed,
         }
 
     def view(self, station):
@@ -66,7 +138,7 @@ class Watcher:
         if refusal:
             self.reach(f'refusal {refusal}')
         if frame is None:
-            self.reach('ill-formed frame')
+            self.ill_formed(text)
         elif refusal:
             self.refused(frame, before, refusal)
         else:
@@ -74,8 +146,15 @@ class Watcher:
             if before:
                 self.drops(before, self.view(station))
 
+    def ill_formed(self, text):
+        self.reach('ill-formed frame')
+        if text.startswith(b'%02X' % CHANGE) and read_frame(text[:-8] + b'%08X' % 0):
+            self.reach('demand neither 0 nor 1')
+
     def refused(self, frame, before, refusal):
         code = frame[0]
+        if code == CHANGE:
+            self.refused_change(frame, before, refusal)
         if code in (1, 8) and before:
             self.reach('open after an open')
         if code == 3 and refusal == 9:
@@ -85,6 +164,16 @@ class Watcher:
         if code == 5 and before:
             in_phase = 'find in sampling' if before.phase == SAMPLING else 'find with none left'
             self.reach('find while owed' if before.owed else in_phase)
+
+    def refused_change(self, frame, before, refusal):
+        if before is None:
+            self.reach('change before an open')
+            return
+        self.reach(*change_refused_as(before, frame[1][:6], refusal))
+        if refusal == 4:
+            self.reach('change while owed')
+        if waits(before):
+            self.reach('refused change, a plan waiting')
 
     # ---- Accepted calls
 
@@ -97,6 +186,7 @@ class Watcher:
 
     def unit(self, frame, before, answer, after):
         if after.last == before.last + 1:
+            self.no_place(before, 'unit in sampling' if before.phase == SAMPLING else 'unit in screening')
             return
         self.reach('jump in screening' if before.phase == SCREENING else 'jump in sampling')
         if before.last == 0:
@@ -105,6 +195,7 @@ class Watcher:
             self.reach('jump cuts a run')
         if before.type == CSP_V and before.row == before.i:
             self.reach('jump after i good samples')
+        self.new_sequence(before, 'jump', 'a missed stretch')
 
     def result(self, frame, before, answer, after):
         defective = frame[1][0] == 1
@@ -115,10 +206,7 @@ class Watcher:
 
     def screened(self, before, after, defective):
         if after.phase == SAMPLING:
-            self.watches = 0
-            self.reach(f'{PLANS[after.type]} sampling')
-            if before.need < before.i:
-                self.reach('need x cleared')
+            self.sampling_begins(before, after)
         if not defective:
             return
         if before.need < before.i:
@@ -126,19 +214,35 @@ class Watcher:
         if before.S and after.screened >= before.S - 1:
             above = after.screened - before.S
             self.reach('defect one below S' if above < 0 else 'LONG at S' if above == 0 else 'LONG above S')
+        if self.old_S and (after.screened < self.old_S) != (after.screened < after.S):
+            self.reach('no LONG by the new S alone' if after.screened < after.S else 'LONG by the new S alone')
+        self.no_place(before, 'defect in screening')
+
+    def sampling_begins(self, before, after):
+        self.watches = self.old_S = 0
+        self.reach(f'{PLANS[after.type]} sampling')
+        if before.need < before.i:
+            self.reach('need x cleared')
+        if waits(before):
+            self.taken_up(before, 'the shift to sampling')
+            if before.need < before.i:
+                self.reach('taken up from need x')
 
     def sampled(self, before, after, defective):
         if after.phase == SCREENING:
             self.reverted(before, after)
         if after.level > before.level:
             self.reach(f'level {after.level}')
+            self.no_place(before, 'a level begins')
         if before.type == CSP_V and before.row == before.i and not defective:
             self.reach('row stops at i')
         if after.watch > before.watch:
             self.watches += 1
             self.reach('watch starts', *(['second watch of a stay'] if self.watches > 1 else []))
+            self.no_place(before, 'watch starts')
         if before.watch and not defective and not after.watch:
             self.reach('watch ends')
+            self.no_place(before, 'watch ends')
 
     def reverted(self, before, after):
         self.reach(f'{PLANS[before.type]} reverts')
@@ -146,23 +250,35 @@ class Watcher:
             self.reach(f'revert from level {before.level}')
         if before.type == CSP_2:
             self.reach('watch reverts')
-        if before.type == CSP_V and before.x < before.i:
+        if waits(before):
+            self.reverted_with_new_plan(before, after)
+        elif before.type == CSP_V and before.x < before.i:
             self.reach('need x' if after.need == before.x else 'need i after a short row')
+
+    def reverted_with_new_plan(self, before, after):
+        self.taken_up(before, 'a reverting defect')
+        if before.level:
+            self.reach(f'taken up from level {before.level}')
+        if before.type == CSP_V and after.x < after.i:
+            self.reach('CSP-V reverts to the new x' if before.row == before.i else 'CSP-V reverts to the new i')
 
     def interrupt(self, frame, before, answer, after):
         self.reach('interrupt in screening' if before.phase == SCREENING else 'interrupt in sampling')
         if before.type == CSP_V and before.row == before.i:
             self.reach('interrupt after i good samples')
+        self.new_sequence(before, 'interrupt', 'an interrupt')
 
     def find(self, frame, before, answer, after):
         self.reach('find')
         if before.need < before.i:
             self.reach('find under need x')
+        self.no_place(before, 'find')
 
     def tick(self, frame, before, answer, after):
         self.reach('tick after a unit' if before.heard else 'silence goes on' if before.silent else 'silence begins')
         if before.owed:
             self.reach('tick while owed')
+        self.no_place(before, f'tick in {PHASES[before.phase]}')
 
     def take(self, frame, before, answer, after):
         kind, count = answer[1], answer[4]
@@ -172,8 +288,78 @@ class Watcher:
 
     def drops(self, before, after):
         """What a call that raised events pushed out."""
+        if after.next == before.next + 3:
+            self.reach('three events in one call')
         if after.next == before.next or after.oldest == before.oldest:
             return
         self.reach('gap widens' if before.told < before.oldest else 'gap begins')
-        if after.oldest == before.oldest + 2:
-            self.reach('two drops in one call')
+        if after.oldest > before.oldest + 1:
+            self.reach('two drops in one call' if after.oldest == before.oldest + 2 else 'three drops in one call')
+
+    # ---- Changes
+
+    def changed(self, frame, before, answer, after):
+        *plan, demand = frame[1]
+        self.reach(*change_as(before, plan, demand))
+        if before.last == 0 and after.n != before.n:
+            self.reach('change before the first unit')
+        if before.silent and not before.heard:
+            self.reach('change in a silence')
+        if waits(before):
+            self.second_request(before, after, plan[1])
+        if after.n != before.n:
+            (self.on_demand if demand else self.at_once)(before)
+
+    def second_request(self, before, after, n):
+        if min(before.n, before.waiting_n) < n < max(before.n, before.waiting_n):
+            self.reach('new plan between the waiting one and the one in force')
+        if waits(after) and waiting_plan(after) != waiting_plan(before):
+            self.reach('waiting plan replaced by another')
+
+    def on_demand(self, before):
+        self.old_S = 0
+        if before.watch:
+            self.reach('change on demand, watch on')
+        if before.level:
+            self.reach(f'change on demand at level {before.level}')
+        if before.type == CSP_V and before.row == before.i:
+            self.reach('change on demand, row at i')
+
+    def at_once(self, before):
+        (self.at_once_in_screening if before.phase == SCREENING else self.at_once_in_sampling)(before)
+
+    def at_once_in_screening(self, before):
+        """The S before it is kept until sampling starts: a defect that it would judge otherwise is told apart."""
+        self.old_S = before.S
+        if before.run:
+            self.reach('change at once keeps a run')
+        if before.need < before.i:
+            self.reach('change at once ends need x')
+
+    def at_once_in_sampling(self, before):
+        if before.place:
+            self.reach('change at once within a block')
+        if before.type == CSP_2 and not before.watch:
+            self.reach('change at once, no watch')
+        if before.watched:
+            self.reach('change at once, watch on')
+        if before.level:
+            self.reach(f'change at once at level {before.level}')
+
+    def new_sequence(self, before, turn, place):
+        """A jump or an interrupt: a waiting plan is taken up in sampling and waits on in screening."""
+        if not waits(before):
+            return
+        if before.phase == SCREENING:
+            self.no_place(before, f'{turn} in screening')
+            return
+        self.taken_up(before, place)
+        if before.type == CSP_V and before.row == before.i:
+            self.reach(f'{turn} to the new i after i good samples')
+
+    def taken_up(self, before, place):
+        self.reach(f'taken up at {place} under {PLANS[before.type]}')
+
+    def no_place(self, before, turn):
+        if waits(before):
+            self.reach(f'not taken up: {turn}')

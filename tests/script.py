@@ -65,6 +65,9 @@ class Script:
             answer = self.line(words(7))
         return answer
 
+    def change(self, type, n, i, S, x=0, N=0, demand=0):
+        return self.line(words(9, type, n, i, S, x, N, demand))
+
     # ---- What a line of work does
 
     def inspected(self):
