@@ -9,23 +9,27 @@ import model
 import probes
 import programs
 from edges import between_blocks, clauses, edges
-from model import FIELDS
+from model import FIELDS, WAITING_FIELDS
 from parallel import in_parallel
 from probes import CALLS, CHECKS, MOST_WORDS, Probes
+from reached import CHANGES, CHANGES_REFUSED
 from report import SHOWN, cut, save
 
 BATCH_BYTES = 8_000_000
 KINDS = {
-    'sound': 2_000, 'willing': 3_000, 'damaged': 2_000, 'begun': 500, 'chance': 500, 'opens': 500, 'stacked': 3_000,
-    'other_rooms': 250, 'rooms': 1,
+    'sound': 2_000, 'willing': 3_000, 'changes': 2_000, 'waiters': 1_000, 'damaged': 2_000, 'begun': 500, 'chance': 500,
+    'opens': 500, 'stacked': 3_000, 'other_rooms': 250, 'rooms': 1,
 }
 NAMES = ('refusal', 'kind', 'number', 'unit', 'value', *FIELDS)
 # Any generator state and either way of hearing are sound, and another C is refused 1: damage there breaks no rule.
 NEVER_UNSOUND = ('C', 's', 'heard')
 # No unit follows the last, a find in sampling is refused, and no result is owed when a level begins.
+IN_SAMPLING = (
+    'row one short of i', 'row at i', 'watch one short of i', 'level 2', 'a level begins', 'a plan waiting in sampling',
+    'a plan waiting, row at i', 'a plan waiting, level 2', 'a plan waiting, watch on',
+)
 NO_SUCH_TURN = {
-    (probes.UNIT, 'last at its limit'), (probes.RESULT, 'a level begins'),
-    *((probes.FIND, limit) for limit in ('row one short of i', 'row at i', 'watch one short of i', 'level 2', 'a level begins')),
+    (probes.UNIT, 'last at its limit'), (probes.RESULT, 'a level begins'), *((probes.FIND, limit) for limit in IN_SAMPLING),
 }
 
 
@@ -101,20 +105,24 @@ def answered(made, tally):
     tally.update(f'{call}: {refusal} before {other}' for other in probes.applying(made)[1:])
     if made.call != probes.OPEN and refusal in (0, 10):
         tally.update(f'{call} at {limit}' for limit in probes.limits(made.st))
+    if made.call == probes.CHANGE:
+        tally.update(probes.change_seen(made, refusal))
     return answer
 
 
 # ---- What must have been seen
 
 def goals():
-    numbers = [f'refusal {number}' for number in range(1, 11)]
+    numbers = [f'refusal {number}' for number in range(1, 12)]
     by_call = [f'{CALLS[call]}: {number}' for call, checks in CHECKS.items() for number in (0, *checks)]
     fields = [f'damaged {field}: 2' for field in FIELDS if field not in NEVER_UNSOUND]
+    fields += [f'damaged {field}, no plan waiting: 2' for field in WAITING_FIELDS]
+    waiters = [f'any plan waiting: {number}' for number in (0, 2)]
     turns = [(call, limit) for call in probes.ON_A_RECORD for limit in probes.LIMITS if (call, limit) not in NO_SUCH_TURN]
     sides = [f'edge {clause}: {number}' for clause, *_ in clauses() for number in (0, 2)]
     sides += [f'edge {name}: 0' for name, _ in between_blocks()]
     limits = [f'{CALLS[call]} at {limit}' for call, limit in turns]
-    return [*numbers, *by_call, *orders(), *fields, *sides, *probes.begun_goals(), *limits]
+    return [*numbers, *by_call, *orders(), *fields, *waiters, *sides, *probes.begun_goals(), *limits, *CHANGES, *CHANGES_REFUSED]
 
 
 def orders():
@@ -129,7 +137,7 @@ def covered(tally):
     seen = sum(tally[order] > 0 for order in orders())
     return ''.join((
         f'{tally["calls"]:,} calls, memories of every length to {MOST_WORDS:,} words, each field damaged, ',
-        f'{len(list(clauses()))} edges of a sound record',
+        f'{len(list(clauses()))} edges of a sound record, {len(CHANGES)} kinds of change',
         *(f'\n    {name}: done {tally[name + ": 0"]:,}, refused {refusals(tally, call)}' for call, name in CALLS.items()),
         f'\n    {seen} of {len(orders())} orders of two checks that both apply, calls at each of {len(probes.LIMITS)} limits',
     ))

@@ -5,9 +5,11 @@ Where a clause does not hold of a plan, records that it would refuse are there t
 """
 
 import model
-from model import CSP_1, CSP_2, CSP_F, CSP_T, CSP_V, EVENT_LIMIT, SAMPLING, SCREENING, UNIT_LIMIT, Station
+from model import CSP_1, CSP_2, CSP_F, CSP_T, CSP_V, EVENT_LIMIT, SAMPLING, SCREENING, UNIT_LIMIT, WAITING_FIELDS, Station
+from reached import PHASES
 
 ALL = (CSP_1, CSP_2, CSP_F, CSP_T, CSP_V)
+CHANGEABLE = (CSP_1, CSP_2, CSP_T, CSP_V)
 TALLIES = dict(conforming=7, defective=2, passed=3, missed=4, owed=0, last=16)
 NO_UNITS = dict.fromkeys(TALLIES, 0)
 OWED = dict(owed=1, last=17)
@@ -31,18 +33,26 @@ def plain(type, phase):
     return fields
 
 
+def with_waiting(type, phase):
+    """The same with a plan waiting: a higher frequency in screening, a lower one in sampling."""
+    n, i = (2, 3) if phase == SCREENING else (6, 8)
+    x = 2 if type == CSP_V else 0
+    return {**plain(type, phase), **dict(zip(WAITING_FIELDS, (type, n, i, 9, x, 0)))}
+
+
 def but(*types):
     return [type for type in ALL if type not in types]
 
 
 def clauses():
-    """Clause, types of plan, phase, the change that is still sound, and the one that is not."""
-    yield from plan_clauses()
-    yield from tally_clauses()
-    yield from screening_clauses()
-    yield from sampling_clauses()
-    yield from beginning_clauses()
-    yield from number_clauses()
+    """Clause, the record that both are changed from, types of plan, phase, the sound change, and the one that is not."""
+    for start, parts in (
+        (plain, (plan_clauses, tally_clauses, screening_clauses, sampling_clauses, beginning_clauses, number_clauses)),
+        (plain, (no_waiting_clauses,)),
+        (with_waiting, (waiting_clauses, waiting_range_clauses)),
+    ):
+        for part in parts:
+            yield from ((clause, start, *rest) for clause, *rest in part())
 
 
 def plan_clauses():
@@ -147,6 +157,55 @@ def number_clauses():
     yield 'silent to next less 2', ALL, SAMPLING, dict(silent=18), dict(silent=19)
 
 
+def no_waiting_clauses():
+    """No plan waits where all six words are 0, and under CSP-F never."""
+    for phase in (SCREENING, SAMPLING):
+        for field in WAITING_FIELDS:
+            yield f'no {field} alone in {PHASES[phase]}', [CSP_1], phase, {}, {field: 1}
+        for type, other in ((CSP_F, dict(waiting_S=0, waiting_N=50)), (CSP_1, dict(waiting_S=9))):
+            plan = {**with_waiting(type, phase), **other}
+            waiting = {field: plan[field] for field in WAITING_FIELDS}
+            yield f'no type {type} waiting under CSP-F in {PHASES[phase]}', [CSP_F], phase, {}, waiting
+
+
+def waiting_clauses():
+    """The waiting plan is of the type in force, and its n and its i are both below in screening, both above in sampling."""
+    for phase, nearest, side in ((SCREENING, dict(n=3, i=4), 1), (SAMPLING, dict(n=5, i=6), -1)):
+        where = PHASES[phase]
+        for field, least in nearest.items():
+            name, near = f'waiting_{field}', {f'waiting_{field}': least}
+            yield f'{name} not that in force in {where}', CHANGEABLE, phase, near, {name: least + side}
+            yield f'{name} not on the other side in {where}', CHANGEABLE, phase, near, {name: least + 2 * side}
+        other = dict(waiting_n=5, waiting_i=6) if phase == SCREENING else dict(waiting_n=3, waiting_i=4)
+        yield f'waiting plan not of the other phase in {where}', CHANGEABLE, phase, {}, other
+        for type in (0, *ALL, 6):
+            others = [here for here in CHANGEABLE if here != type]
+            yield f'waiting_type the same, not {type}, in {where}', others, phase, {}, of_type(type)
+
+
+def of_type(type):
+    """What makes a waiting plan one of another type, in range where there is such a type."""
+    by_type = {CSP_F: dict(waiting_S=0, waiting_x=0, waiting_N=50), CSP_V: dict(waiting_x=2)}
+    return dict(waiting_type=type, **by_type.get(type, dict(waiting_x=0)))
+
+
+def waiting_range_clauses():
+    """The waiting plan's own range; a limit on the far side from the plan in force is reached in one phase alone."""
+    yield 'waiting_n from 2', CHANGEABLE, SCREENING, dict(waiting_n=2), dict(waiting_n=1)
+    yield 'waiting_n to 200', CHANGEABLE, SAMPLING, dict(waiting_n=200), dict(waiting_n=201)
+    yield 'waiting_i from 1', [CSP_1, CSP_2, CSP_T], SCREENING, dict(waiting_i=1), dict(waiting_i=0)
+    yield 'waiting_i to 10,000', CHANGEABLE, SAMPLING, dict(waiting_i=10_000, waiting_S=100_000), dict(waiting_i=10_001, waiting_S=100_000)
+    yield 'waiting_x from 1', [CSP_V], SCREENING, dict(waiting_x=1), dict(waiting_x=0)
+    yield 'waiting_x to waiting_i', [CSP_V], SCREENING, dict(waiting_x=3), dict(waiting_x=4)
+    yield 'waiting_x to waiting_i, above x', [CSP_V], SAMPLING, dict(waiting_x=8), dict(waiting_x=9)
+    for phase, i in ((SCREENING, 3), (SAMPLING, 8)):
+        where = PHASES[phase]
+        yield f'waiting_S from waiting_i in {where}', CHANGEABLE, phase, dict(waiting_S=i), dict(waiting_S=i - 1)
+        yield f'waiting_S to 100,000 in {where}', CHANGEABLE, phase, dict(waiting_S=100_000), dict(waiting_S=100_001)
+        yield f'waiting_x 0 but for CSP-V in {where}', [CSP_1, CSP_2, CSP_T], phase, {}, dict(waiting_x=1)
+        yield f'waiting_N 0 in {where}', CHANGEABLE, phase, {}, dict(waiting_N=50)
+
+
 def station(fields):
     return Station(fields.get(field, 0) for field in model.FIELDS)
 
@@ -156,8 +215,8 @@ def edges():
     for name, sound in between_blocks():
         assert model.sound(sound), name
         yield name, sound
-    for clause, types, phase, kept, broken in clauses():
+    for clause, start, types, phase, kept, broken in clauses():
         for type in types:
-            sound, unsound = (station({**plain(type, phase), **change}) for change in (kept, broken))
+            sound, unsound = (station({**start(type, phase), **change}) for change in (kept, broken))
             assert model.sound(sound) and not model.sound(unsound), clause
             yield clause, sound, unsound

@@ -3,18 +3,25 @@
 import struct
 
 import model
-from model import EVENT_LIMIT, LEAST_ROOM, MOST_ROOM, SAMPLING, SCREENING, WORD, Station
-from reached import PLANS
+from model import EVENT_LIMIT, LEAST_ROOM, MOST_ROOM, SAMPLING, SCREENING, WAITING_FIELDS, WORD, Station
+from reached import PLANS, change_as, change_refused_as
 from records import Records
 
-OPEN, UNIT, RESULT, INTERRUPT, FIND, TICK, TAKE = range(1, 8)
-CALLS = {OPEN: 'open', UNIT: 'unit', RESULT: 'result', INTERRUPT: 'interrupt', FIND: 'check find', TICK: 'tick', TAKE: 'take'}
-ON_A_RECORD = range(UNIT, TAKE + 1)
-# Document 01's checks of each call, in order.
+OPEN, UNIT, RESULT, INTERRUPT, FIND, TICK, TAKE, CHANGE = range(1, 9)
+CALLS = {
+    OPEN: 'open', UNIT: 'unit', RESULT: 'result', INTERRUPT: 'interrupt', FIND: 'check find', TICK: 'tick', TAKE: 'take',
+    CHANGE: 'change',
+}
+ON_A_RECORD = range(UNIT, CHANGE + 1)
+# The documents' checks of each call, in order.
 CHECKS = {
     OPEN: (1, 3), UNIT: (1, 2, 10, 4, 6, 7), RESULT: (1, 2, 10, 9, 5), INTERRUPT: (1, 2, 10, 4), FIND: (1, 2, 10, 4, 8),
-    TICK: (1, 2, 10), TAKE: (1, 2),
+    TICK: (1, 2, 10), TAKE: (1, 2), CHANGE: (1, 2, 10, 4, 11, 3),
 }
+# Where the new n and i stand beside those in force: below (-1), equal (0) or above (1).
+ALLOWED = ((-1, -1), (1, 1), (0, -1), (0, 0), (0, 1))
+NOT_ALLOWED = ((-1, 0), (-1, 1), (1, 0), (1, -1))
+DEMANDS = (0, 0, 0, 1, 1, 2, 2 ** 31, WORD - 1)
 SMALL_ROOMS = (8, 9, 10, 11, 12, 16)
 ROOMS = (*SMALL_ROOMS, 31, 64, 100, 255, 256, 1000, 2048, 4095, 4096)
 SMALL_PLAN = [model.CSP_1, 2, 3, 4, 0, 0, 0]
@@ -44,7 +51,20 @@ class Probes(Records):
             return [self.random.choice(near) % WORD]
         if call == RESULT:
             return [self.random.choice((0, 0, 0, 1, 1, 1, 2, WORD - 1, 2 ** 31))]
+        if call == CHANGE:
+            return [*self.new_plan(st), self.random.choice(DEMANDS)]
         return []
+
+    def new_plan(self, st):
+        """Mostly one that the plan in force may be changed to."""
+        plan = self.plan_beside(st, *self.random.choice(self.random.choice((ALLOWED, ALLOWED, NOT_ALLOWED))))
+        return self.one_off(plan) if self.random.random() < 0.2 else plan
+
+    def one_off(self, plan):
+        """A plan with one number off by one, or of chance."""
+        at = self.random.randrange(6)
+        other = self.random.choice(((plan[at] + 1) % WORD, (plan[at] - 1) % WORD, self.word()))
+        return [*plan[:at], other, *plan[at + 1:]]
 
     def request(self, about, call, st, queue):
         if call == OPEN:
@@ -74,6 +94,8 @@ class Probes(Records):
                 made.arguments = [made.st.last + self.random.choice((1, 1, 2, 9))]
             if made.call == FIND and made.st.phase == SCREENING and made.st.conforming:
                 made.st.unrecalled = max(made.st.unrecalled, 1)
+            if made.call == CHANGE:
+                made.arguments[:6] = self.plan_beside(made.st, *self.random.choice(ALLOWED))
             if self.random.random() < 0.3:
                 self.last_numbers(made.st)
             yield made
@@ -85,13 +107,33 @@ class Probes(Records):
                 for call in ON_A_RECORD:
                     yield self.request(f'edge {clause}', call, st, self.memory(st.C))
 
+    def changes(self, count):
+        """Changes of every kind, on reached and made-up records with a plan waiting and with none; seldom with a result owed."""
+        for _ in range(count):
+            room = self.random.choice(SMALL_ROOMS)
+            (reached,) = self.reached(room, 1)
+            made = self.request('a change', CHANGE, *self.random.choice((reached, (self.made_up(room), self.memory(room)))))
+            if self.random.random() < 0.9:
+                self.owing_nothing(made)
+            yield made
+
+    def waiters(self, count):
+        """Records in which any plan may wait: one that can, one beside the plan in force on any side, one with a number off."""
+        for _ in range(count):
+            room = self.random.choice(SMALL_ROOMS)
+            st, queue = self.made_up(room), self.memory(room)
+            sides = self.random.choice((-1, 0, 1)), self.random.choice((-1, 0, 1))
+            plan = self.random.choice((model.waiting_plan(st), self.plan_beside(st, *sides)))
+            model.set_waiting(st, self.one_off(plan) if self.random.random() < 0.5 else plan)
+            yield self.request('any plan waiting', self.any_call(), st, queue)
+
     def damaged(self, count):
         """Every field of a sound record changed, field after field."""
         for _ in range(count // 20):
             room = self.random.choice(SMALL_ROOMS)
             st, queue = self.made_up(room), self.memory(room)
             for field in self.fields_of(st):
-                yield self.request(f'damaged {field}', self.any_call(), self.with_damage(st, field), queue)
+                yield self.request(damaged_as(st, field), self.any_call(), self.with_damage(st, field), queue)
 
     def begun(self, count):
         """Records that look like a level's beginning, with the chosen place 0 or another."""
@@ -115,8 +157,7 @@ class Probes(Records):
             st = self.made_up(8)
             plan = st.words()[:6]
             if self.random.random() < 0.6:
-                at = self.random.randrange(6)
-                plan[at] = self.random.choice(((plan[at] + 1) % WORD, (plan[at] - 1) % WORD, self.word()))
+                plan = self.one_off(plan)
             size = self.random.choice((24, 24, 27, 30, 0, 23, 25, 26, 3 * self.random.randrange(40)))
             queue = [self.random.getrandbits(32) for _ in range(size)]
             yield Request('open', OPEN, [*plan, self.word()], self.random.choice((st, Station())), queue)
@@ -143,7 +184,7 @@ class Probes(Records):
             yield self.request(f'{length} words', self.random.choice(list(CALLS)), self.made_up(room), words[:length])
 
     def stacked(self, count):
-        """Several checks apply at once: the first in document 01's order is given."""
+        """Several checks apply at once: the first in the documents' order is given."""
         for _ in range(count):
             call = self.random.choice(list(CALLS))
             made = self.request('stacked', call, self.made_up(8), self.memory(8))
@@ -157,11 +198,12 @@ class Probes(Records):
     def faults(self):
         return (
             (10, self.no_numbers), (4, self.owing), (5, self.owing_nothing), (8, self.nothing_to_recall), (6, self.low_unit),
-            (7, self.high_unit), (9, self.odd_result), (3, self.bad_plan), (2, self.unsound), (1, self.misfit),
+            (7, self.high_unit), (9, self.odd_result), (11, self.no_such_change), (3, self.bad_plan), (2, self.unsound),
+            (1, self.misfit),
         )
 
     def no_numbers(self, made):
-        self.numbers_from(made.st, self.random.choice((EVENT_LIMIT, EVENT_LIMIT + 1)))
+        self.numbers_from(made.st, self.random.choice((EVENT_LIMIT - 1, EVENT_LIMIT, EVENT_LIMIT + 1)))
 
     def owing(self, made):
         st = made.st
@@ -189,6 +231,9 @@ class Probes(Records):
     def odd_result(self, made):
         made.arguments = [2]
 
+    def no_such_change(self, made):
+        made.arguments[:6] = self.plan_beside(made.st, *self.random.choice(NOT_ALLOWED))
+
     def bad_plan(self, made):
         made.arguments[self.random.randrange(6)] = WORD - 1
 
@@ -200,20 +245,21 @@ class Probes(Records):
 
 
 def applying(made):
-    """Every check of the call that applies, in document 01's order, each looked at by itself."""
+    """Every check of the call that applies, in the documents' order, each looked at by itself."""
     st, first = made.st, (made.arguments or [0])[0]
     room = model.room_of(made.queue)
     applies = {
         1: room == 0 or (made.call != OPEN and room != st.C),
         2: not model.sound(st),
-        3: made.call == OPEN and not model.plan_in_range(*made.arguments[:6]),
+        3: made.call in (OPEN, CHANGE) and not model.plan_in_range(*made.arguments[:6]),
         4: st.owed,
         5: not st.owed,
         6: first <= st.last,
         7: first > model.unit_limit(st),
         8: st.phase != SCREENING or st.unrecalled == 0,
         9: first not in (0, 1),
-        10: st.next > EVENT_LIMIT - 1,
+        10: st.next > EVENT_LIMIT - 2,
+        11: made.call == CHANGE and model.not_allowed(st, *made.arguments[:3]),
     }
     return [number for number in CHECKS[made.call] if applies[number]]
 
@@ -232,18 +278,33 @@ def begun_goals():
             yield f'{begun_as(type, level, False)}: {2 if told else 0}'
 
 
+def damaged_as(st, field):
+    """A word of a waiting plan is one thing, and a word where no plan waits another."""
+    none_waits = field in WAITING_FIELDS and model.waiting_plan(st) == model.NO_PLAN
+    return f'damaged {field}, no plan waiting' if none_waits else f'damaged {field}'
+
+
+def change_seen(made, refusal):
+    """What a change was, where it was taken, or the one reason for which it was not."""
+    *plan, demand = made.arguments
+    return change_as(made.st, plan, demand) if refusal == 0 else change_refused_as(made.st, plan, refusal)
+
+
 LIMITS = (
-    *(f'next {number:,}' for number in range(EVENT_LIMIT - 2, EVENT_LIMIT + 2)),
+    *(f'next {number:,}' for number in range(EVENT_LIMIT - 3, EVENT_LIMIT + 2)),
     'last at its limit', 'run one short of need', 'need x', 'screened one short of S', 'screened at S',
     'row one short of i', 'row at i', 'watch one short of i', 'level 2', 'a level begins',
     'queue empty', 'queue full', 'queue one short of full', 'gap', 'silent at its most',
+    'a plan waiting in screening', 'a plan waiting in sampling', 'a plan waiting one step off',
+    'a plan waiting, run one short of need', 'a plan waiting, row at i', 'a plan waiting, level 2', 'a plan waiting, watch on',
 )
 
 
 def limits(st):
-    """The limits of document 01 that a sound record stands at."""
+    """The limits of the documents that a sound record stands at."""
     held = st.next - st.oldest
     screening, sampling = st.phase == SCREENING, st.phase == SAMPLING
+    waiting = model.waiting_plan(st) != model.NO_PLAN
     at = {
         f'next {st.next:,}': True,
         'last at its limit': st.last == model.unit_limit(st),
@@ -261,5 +322,12 @@ def limits(st):
         'queue one short of full': held == st.C - 1,
         'gap': st.told < st.oldest,
         'silent at its most': st.silent == st.next - 2,
+        'a plan waiting in screening': waiting and screening,
+        'a plan waiting in sampling': waiting and sampling,
+        'a plan waiting one step off': waiting and abs(st.waiting_n - st.n) == abs(st.waiting_i - st.i) == 1,
+        'a plan waiting, run one short of need': waiting and screening and st.run == st.need - 1,
+        'a plan waiting, row at i': waiting and sampling and st.row == st.i,
+        'a plan waiting, level 2': waiting and st.level == 2,
+        'a plan waiting, watch on': waiting and st.watch,
     }
     return [name for name, holds in at.items() if holds]

@@ -5,7 +5,8 @@ import random
 import model
 from drive import Driver
 from model import (
-    CSP_2, CSP_F, CSP_T, CSP_V, EVENT_LIMIT, FIELDS, FLAGS, SAMPLING_FIELDS, SCREENING_FIELDS, UNIT_LIMIT, WORD, Station,
+    CSP_2, CSP_F, CSP_T, CSP_V, EVENT_LIMIT, FIELDS, FLAGS, SAMPLING_FIELDS, SCREENING_FIELDS, UNIT_LIMIT,
+    WAITING_FIELDS, WORD, Station,
 )
 
 EXTREMES = (0, 1, 2, 2 ** 31, WORD - 1, UNIT_LIMIT, UNIT_LIMIT + 1, EVENT_LIMIT + 1, EVENT_LIMIT + 2, 10_000, 100_001)
@@ -49,6 +50,8 @@ class Records:
         st.C, st.s = room, self.word()
         self.tallies(st)
         self.random.choice((self.screening, self.sampling))(st)
+        if self.random.random() < 0.5:
+            self.waiting(st)
         self.numbers(st)
         assert model.sound(st), st.words()
         return st
@@ -60,6 +63,29 @@ class Records:
         st.S = 0 if st.type == CSP_F else self.pick(st.i, 100_000)
         st.x = self.pick(1, st.i) if st.type == CSP_V else 0
         st.N = self.pick(1, 1_000_000) if st.type == CSP_F else 0
+
+    def plan_beside(self, st, n_side, i_side):
+        """A plan of the same type with n and i below those in force (-1), at them (0) or above (1).
+
+        Where document 01 has no number on that side, the first one out of its range is taken.
+        """
+        n, i = self.beside(st.n, n_side, 2, 200), self.beside(st.i, i_side, 1, 10_000)
+        S = 0 if st.type == CSP_F else self.pick(min(i, 100_000), 100_000)
+        x = self.pick(min(1, i), i) if st.type == CSP_V else 0
+        N = self.pick(1, 1_000_000) if st.type == CSP_F else 0
+        return [number % WORD for number in (st.type, n, i, S, x, N)]
+
+    def beside(self, number, side, low, high):
+        if side < 0:
+            return self.pick(min(low, number - 1), number - 1)
+        return self.pick(number + 1, max(high, number + 1)) if side else number
+
+    def waiting(self, st):
+        """A higher frequency waits in screening and a lower one in sampling, where there is a plan that can."""
+        side = -1 if st.phase == model.SCREENING else 1
+        plan = self.plan_beside(st, side, side)
+        if st.type != CSP_F and model.plan_in_range(*plan):
+            model.set_waiting(st, plan)
 
     def tallies(self, st):
         st.last = self.pick(0, model.unit_limit(st))
@@ -120,8 +146,8 @@ class Records:
         st.heard = self.random.randrange(2)
 
     def last_numbers(self, st):
-        """Two numbers left, one, or none."""
-        self.numbers_from(st, self.random.randrange(EVENT_LIMIT - 2, EVENT_LIMIT + 2))
+        """Four numbers left, three, two, one, or none."""
+        self.numbers_from(st, self.random.randrange(EVENT_LIMIT - 3, EVENT_LIMIT + 2))
 
     def numbers_from(self, st, next):
         """Queues that are empty, full or nearly so, and full ones with a gap."""
@@ -157,9 +183,11 @@ class Records:
         return [field for field in FIELDS if field not in absent]
 
     def any_record(self):
-        """Words of chance; flags are 0 or 1, and fields of the other phase do not exist."""
+        """Words of chance; flags are 0 or 1, and fields of the other phase do not exist. Half of them have no plan waiting."""
         st = Station(self.word() for _ in FIELDS)
         for flag in FLAGS:
             setattr(st, flag, self.random.randrange(2))
+        if self.random.random() < 0.5:
+            model.clear(st, WAITING_FIELDS)
         model.clear(st, SAMPLING_FIELDS if st.phase == model.SCREENING else SCREENING_FIELDS)
         return st
