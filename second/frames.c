@@ -1,4 +1,4 @@
-/* The program of document 01: a frame a line in, an answer a line out. */
+/* The program of "Frames": a frame a line in, an answer a line out. */
 #include "jobs.h"
 #include "station.h"
 #include "wire.h"
@@ -12,7 +12,7 @@ enum {
 };
 
 enum code {
-    OPEN = 1, UNIT, RESULT, STOP, FIND, TICK, TAKE, OPEN_TABLE, CODES
+    OPEN = 1, UNIT, RESULT, STOP, FIND, TICK, TAKE, OPEN_TABLE, CHANGE, CODES
 };
 
 struct frame {
@@ -26,7 +26,7 @@ struct recorder {
     int open;
 };
 
-static const uint8_t words_of[CODES] = { 0, 7, 1, 1, 0, 0, 0, 0, 5 };
+static const uint8_t words_of[CODES] = { 0, 7, 1, 1, 0, 0, 0, 0, 5, 7 };
 
 static struct recorder recorder;
 static char input[LINE_MAX_CHARS + CHUNK];
@@ -36,6 +36,12 @@ static char output[(size_t)ANSWER_CHARS * CHUNK];
 static int count_fits(uint32_t code, size_t count)
 {
     return count == words_of[code] || (code == OPEN_TABLE && count == 4);
+}
+
+/* A change's own checks have no 9, so its demand is a matter of form. */
+static int demand_fits(const struct frame *f)
+{
+    return f->code != CHANGE || f->words[6] <= 1;
 }
 
 static int read_frame(const char *line, size_t length, struct frame *f)
@@ -49,7 +55,7 @@ static int read_frame(const char *line, size_t length, struct frame *f)
     for (uint32_t j = 0; j < f->count; j++, line += 9)
         if (line[0] != ' ' || !get_word(line + 1, &f->words[j]))
             return 0;
-    return 1;
+    return demand_fits(f);
 }
 
 static struct memory queue_of(struct recorder *r)
@@ -83,6 +89,13 @@ static struct answer open_table(struct recorder *r, const struct frame *f)
     return open_plan(r, &plan, f->count == 5 ? w[4] : 0);
 }
 
+static struct answer change(struct recorder *r, const uint32_t *w)
+{
+    struct plan plan = { w[0], w[1], w[2], w[3], w[4], w[5] };
+
+    return station_change(&r->station, queue_of(r), &plan, w[6] != 0);
+}
+
 static struct answer call(struct recorder *r, const struct frame *f)
 {
     struct station *st = &r->station;
@@ -94,6 +107,7 @@ static struct answer call(struct recorder *r, const struct frame *f)
     case STOP:   return station_interrupt(st, mem);
     case FIND:   return station_check_find(st, mem);
     case TICK:   return station_tick(st, mem);
+    case CHANGE: return change(r, f->words);
     default:     return station_take(st, mem);
     }
 }
