@@ -7,6 +7,10 @@ def words(code, *numbers):
     return b' '.join([b'%02X' % code, *(b'%08X' % number for number in numbers)])
 
 
+def least_S(type, i):
+    return 0 if type == model.CSP_F else i
+
+
 class Script:
     """The lines of a session, and the model's answer to each."""
 
@@ -36,9 +40,7 @@ class Script:
 
     def open(self, type, n, i, S=None, x=0, N=0, seed=0):
         """S is i where nothing is said, or 0 for CSP-F."""
-        if S is None:
-            S = 0 if type == model.CSP_F else i
-        return self.line(words(1, type, n, i, S, x, N, seed))
+        return self.line(words(1, type, n, i, least_S(type, i) if S is None else S, x, N, seed))
 
     def table(self, type, letter, aql, N=0, seed=None):
         return self.line(words(8, type, letter, aql, N, *([] if seed is None else [seed])))
@@ -65,8 +67,9 @@ class Script:
             answer = self.line(words(7))
         return answer
 
-    def change(self, type, n, i, S, x=0, N=0, demand=0):
-        return self.line(words(9, type, n, i, S, x, N, demand))
+    def change(self, type, n, i, S=None, x=0, N=0, demand=0):
+        """S is i where nothing is said, or 0 for CSP-F."""
+        return self.line(words(9, type, n, i, least_S(type, i) if S is None else S, x, N, demand))
 
     # ---- What a line of work does
 

@@ -451,6 +451,7 @@ def before_open(s):
     s.open(CSP_1, 1, 1)
     s.line(words(2, 0))
     s.take()
+    s.change(CSP_1, 2, 2)
 
 
 @session
@@ -469,7 +470,7 @@ def open_again(s):
 
 @session
 def result_owed(s):
-    """While a result is owed a unit, an interrupt and a find get 4, in both phases; ticks and takes are done."""
+    """While a result is owed a unit, an interrupt, a find and a change get 4, in both phases; ticks and takes are done."""
     s.open(CSP_1, 2, 2)
     for _ in range(2):
         s.inspected()
@@ -480,6 +481,7 @@ def result_owed(s):
         s.tick(2)
         s.take()
         s.result(2)
+        s.change(CSP_1, 3, 3)
         s.result(0)
         s.good()
     s.take_all()
@@ -721,6 +723,28 @@ def overflow_twice_in_one_call(s):
 
 
 @session
+def overflow_thrice_in_one_call(s):
+    """One call drops three events: INTERRUPT, PHASE and PLAN come to a full queue; a gap that is there widens by three."""
+    s.open(CSP_1, 2, 1, 50)
+    s.good()
+    s.change(CSP_1, 3, 2, 50)
+    s.tick(8)
+    s.interrupt()
+    s.take_all()
+    s.good(2)
+    s.change(CSP_1, 5, 3, 50)
+    s.tick(8)
+    s.interrupt()
+    s.take_all()
+    # two places are free: one is dropped
+    s.good(3)
+    s.change(CSP_1, 7, 4, 50)
+    s.tick(6)
+    s.bad()
+    s.take_all()
+
+
+@session
 def overflow_at_the_edge(s):
     """Two events that find one place free drop one; eight events fit with no marker."""
     s.open(CSP_1, 2, 1)
@@ -854,6 +878,532 @@ def empty_lines(s):
     """Input of line feeds alone: a 9 for each."""
     for _ in range(5):
         s.line(b'')
+
+
+# ---- A change of plan: document 02, W1
+
+@session
+def change_waits_in_screening(s):
+    """Change: a higher frequency waits in screening and tells nothing; the shift to sampling tells PHASE and then PLAN."""
+    s.open(CSP_1, 3, 3, 5)
+    s.change(CSP_1, 2, 2)
+    s.take(2)
+    s.good(3)
+    s.take(2)
+
+
+@session
+def change_waits_in_sampling(s):
+    """Change: a lower frequency waits in sampling; an interrupt takes it up: INTERRUPT, PHASE, PLAN."""
+    s.open(CSP_1, 3, 3, 5)
+    s.good(3)
+    s.change(CSP_1, 5, 4)
+    s.take(2)
+    s.interrupt()
+    s.take(3)
+
+
+@session
+def change_on_demand(s):
+    """Change: on demand in screening, PLAN alone and the run begins again; then in sampling, PHASE and PLAN."""
+    s.open(CSP_1, 3, 3, 5)
+    s.good(2)
+    s.change(CSP_1, 2, 2, demand=1)
+    s.take(2)
+    s.good(2)
+    s.change(CSP_1, 3, 3, demand=1)
+    s.take(3)
+
+
+@session
+def change_at_once_in_screening(s):
+    """Change: a lower frequency at once in screening: the run of 2 stays, and 2 more make the new i of 4."""
+    s.open(CSP_1, 3, 3, 5)
+    s.good(2)
+    s.change(CSP_1, 5, 4)
+    s.take(2)
+    s.good(2)
+    s.take()
+
+
+def each_way(s, higher, middle, lower, sampled, seed):
+    """A change each way in each phase, and on demand; `sampled` is what goes before a change in sampling."""
+    s.open(*middle, seed=seed)
+    s.good()
+    # higher, in screening: it waits for the old need
+    s.change(*higher)
+    s.take_all()
+    s.good(middle[2] - 1)
+    s.take_all()
+    # lower, in sampling: it waits for the return
+    sampled(s, higher)
+    s.change(*middle)
+    s.take_all()
+    s.bad()
+    s.take_all()
+    # lower, in screening: at once, and the run of 1 stays
+    s.good()
+    s.change(*lower)
+    s.take_all()
+    s.good(lower[2] - 2)
+    s.take_all()
+    s.good()
+    s.take_all()
+    # higher, in sampling: at once, a new block
+    sampled(s, lower)
+    s.change(*middle)
+    s.take_all()
+    s.units(6)
+    # on demand: higher in sampling, lower in screening, lower in sampling, higher in screening
+    s.change(*higher, demand=1)
+    s.take_all()
+    s.good()
+    s.change(*middle, demand=1)
+    s.good(middle[2])
+    s.take_all()
+    sampled(s, middle)
+    s.change(*lower, demand=1)
+    s.good(lower[2] - 1)
+    s.take_all()
+    s.change(*higher, demand=1)
+    s.good()
+    s.take_all()
+    s.good()
+    s.units(6)
+    s.take_all()
+
+
+@session
+def change_csp_1(s):
+    """Change: CSP-1, each way in each phase, and on demand."""
+    plans = (CSP_1, 2, 2, 20), (CSP_1, 4, 3, 30), (CSP_1, 7, 5, 40)
+    each_way(s, *plans, lambda s, plan: s.units(plan[1] + 1), seed=0xC0DE)
+
+
+@session
+def change_csp_2(s):
+    """Change: CSP-2, each way in each phase, and on demand, each time with a watch on that has counted 1."""
+    plans = (CSP_2, 2, 2, 20), (CSP_2, 4, 3, 30), (CSP_2, 7, 5, 40)
+
+    def watched(s, plan):
+        s.bad()
+        s.good()
+
+    each_way(s, *plans, watched, seed=0xC0DE)
+
+
+@session
+def change_csp_t(s):
+    """Change: CSP-T, each way in each phase, and on demand, each time from level 1."""
+    plans = (CSP_T, 2, 2, 20), (CSP_T, 4, 3, 30), (CSP_T, 7, 5, 40)
+    each_way(s, *plans, lambda s, plan: s.good(plan[2]), seed=0xC0DE)
+
+
+@session
+def change_csp_v(s):
+    """Change: CSP-V, each way in each phase, and on demand, each time with i good samples; x is taken after a defect alone."""
+    plans = (CSP_V, 2, 2, 20, 1), (CSP_V, 4, 3, 30, 2), (CSP_V, 7, 5, 40, 3)
+    each_way(s, *plans, lambda s, plan: s.good(plan[2]), seed=0xC0DE)
+
+
+@session
+def change_taken_up(s):
+    """Change: what waits is taken up at a shift to sampling, at a reverting defect, a missed stretch and an interrupt."""
+    s.open(CSP_1, 5, 3, 50, seed=6)
+
+    def into_sampling(units):
+        s.change(CSP_1, 2, 1)
+        s.good(units)
+        s.take_all()
+        s.units(3)
+        s.change(CSP_1, 5, 3, 50)
+        s.take_all()
+
+    into_sampling(3)
+    s.bad()
+    s.take_all()
+    into_sampling(3)
+    s.unit(s.station.last + 4)
+    s.take_all()
+    s.result(0)
+    into_sampling(2)
+    s.interrupt()
+    s.take_all()
+    into_sampling(3)
+
+
+@session
+def change_csp_v_row(s):
+    """Change: taken up as CSP-V reverts, the old i of 2 judges the samples: new x 3 after 2, new i 4 after 1, a stop or a jump."""
+    old, new = (CSP_V, 3, 2, 50, 1), (CSP_V, 5, 4, 50, 3)
+    s.open(*old, seed=8)
+
+    def into_sampling(samples):
+        s.good(2)
+        s.change(*new)
+        s.good(samples)
+        s.take_all()
+
+    def needed(units):
+        s.good(units - 1)
+        s.take_all()
+        s.good()
+        s.take_all()
+        s.change(*old, demand=1)
+        s.take_all()
+
+    into_sampling(2)
+    s.bad()
+    needed(3)
+    into_sampling(1)
+    s.bad()
+    needed(4)
+    into_sampling(3)
+    s.interrupt()
+    needed(4)
+    into_sampling(2)
+    s.unit(s.station.last + 2)
+    s.result(0)
+    needed(3)
+
+
+@session
+def change_not_taken_up(s):
+    """Change: a jump, an interrupt, a find and a defect in screening leave a higher frequency waiting."""
+    s.open(CSP_1, 4, 4, 50)
+    s.good(2)
+    s.change(CSP_1, 2, 2)
+    s.unit(s.station.last + 3)
+    s.result(0)
+    s.good(2)
+    s.take_all()
+    s.interrupt()
+    s.good(3)
+    s.take_all()
+    s.find()
+    s.good(3)
+    s.take_all()
+    s.bad()
+    s.good(3)
+    s.take_all()
+    s.good()
+    s.take_all()
+
+
+@session
+def change_csp_t_levels(s):
+    """Change: a new level takes up nothing; a change at once at level 2 and at level 1 tells PHASE 1, then PLAN, at 0 PLAN alone."""
+    s.open(CSP_T, 5, 4, 50, seed=12)
+    s.good(4)
+    s.change(CSP_T, 7, 5)
+    s.good(4)
+    s.take_all()
+    s.good(4)
+    s.take_all()
+    # level 2: what waited is gone, and the blocks are of 4
+    s.change(CSP_T, 4, 3)
+    s.take_all()
+    s.good(2)
+    s.units(4)
+    s.take_all()
+    # level 1: the row has begun anew, and 2 good samples are the next level
+    s.change(CSP_T, 3, 2)
+    s.take_all()
+    s.good()
+    s.change(CSP_T, 2, 1)
+    s.take_all()
+    s.good()
+    s.interrupt()
+    s.take_all()
+
+
+@session
+def change_replaced(s):
+    """Change: a second request replaces the one that waits; one that takes force at once, or on demand, clears it."""
+    s.open(CSP_1, 5, 4, 50)
+    s.change(CSP_1, 2, 1)
+    s.change(CSP_1, 3, 2)
+    s.good(4)
+    s.take_all()
+    s.change(CSP_1, 4, 3)
+    s.change(CSP_1, 6, 5, 50)
+    s.interrupt()
+    s.take_all()
+    # at once in screening, and in sampling
+    s.change(CSP_1, 3, 2)
+    s.change(CSP_1, 7, 6, 50)
+    s.good(6)
+    s.take_all()
+    s.change(CSP_1, 9, 8)
+    s.change(CSP_1, 5, 4, 50)
+    s.interrupt()
+    s.take_all()
+    # on demand in screening, and in sampling
+    s.change(CSP_1, 2, 1)
+    s.change(CSP_1, 3, 2, demand=1)
+    s.good(2)
+    s.take_all()
+    s.change(CSP_1, 4, 3)
+    s.change(CSP_1, 6, 5, demand=1)
+    s.good(5)
+    s.interrupt()
+    s.take_all()
+
+
+@session
+def change_equal_frequency(s):
+    """Change: an equal frequency changes nothing, on demand too: not i, S, run or block, and not the plan that waits."""
+    s.open(CSP_1, 4, 3, 6)
+    s.good(2)
+    for demand in (0, 1):
+        s.change(CSP_1, 4, 1, demand=demand)
+        s.change(CSP_1, 4, 9, demand=demand)
+    s.take_all()
+    s.bad()
+    s.good(2)
+    s.bad()
+    s.take_all()
+    s.change(CSP_1, 3, 2)
+    s.good(2)
+    s.change(CSP_1, 4, 2)
+    s.change(CSP_1, 4, 9, demand=1)
+    s.good()
+    s.take_all()
+    s.units(2)
+    s.change(CSP_1, 3, 1)
+    s.change(CSP_1, 3, 1, demand=1)
+    s.units(7)
+    s.change(CSP_1, 6, 5)
+    s.change(CSP_1, 3, 1)
+    s.change(CSP_1, 3, 9, demand=1)
+    s.take_all()
+    s.interrupt()
+    s.good(5)
+    s.take_all()
+
+
+@session
+def change_csp_2_watch(s):
+    """Change: at once in sampling a CSP-2 watch stays on with count 0, and one that is off stays off."""
+    s.open(CSP_2, 5, 4, 50, seed=10)
+    s.good(4)
+    s.bad()
+    s.good(3)
+    # 3 have been counted of 4; of the new i of 3 none
+    s.change(CSP_2, 4, 3)
+    s.take_all()
+    s.good(2)
+    s.bad()
+    s.take_all()
+    # the watch ends after the new i
+    s.good(3)
+    s.bad()
+    s.change(CSP_2, 3, 2)
+    s.take_all()
+    s.good(2)
+    s.bad()
+    s.take_all()
+    s.good(2)
+    # off: the first defect reverts nothing
+    s.change(CSP_2, 2, 1)
+    s.bad()
+    s.take_all()
+    s.bad()
+    s.take_all()
+
+
+@session
+def change_keeps_the_generator(s):
+    """Change: seed 0: no change steps the generator or sets it back; a block is begun anew with the draw that comes next."""
+    s.open(CSP_1, 100, 5, 50)
+    s.change(CSP_1, 99, 4)
+    s.change(CSP_1, 101, 6, 50)
+    s.change(CSP_1, 90, 4, 50, demand=1)
+    s.good(4)
+    # the first draw gives place 21 of 90; the second 0 of 2, the third 1 of 2
+    s.units(5)
+    s.change(CSP_1, 95, 5)
+    s.change(CSP_1, 2, 2)
+    s.units(4)
+    s.take_all()
+    # the fourth and the fifth, after changes in both phases
+    s.change(CSP_1, 50, 3)
+    s.interrupt()
+    s.change(CSP_1, 60, 4)
+    s.change(CSP_1, 10, 1, demand=1)
+    s.good()
+    s.units(20)
+    s.take_all()
+
+
+@session
+def change_long(s):
+    """Change: the new S judges the next defect, with the units screened that stayed; on demand they begin again."""
+    s.open(CSP_1, 3, 3, 50)
+    s.bad(4)
+    s.change(CSP_1, 5, 4, 5)
+    s.take_all()
+    s.bad()
+    s.take_all()
+    s.change(CSP_1, 6, 5, 50)
+    s.bad()
+    s.take_all()
+    s.change(CSP_1, 7, 6, 6)
+    s.take_all()
+    s.bad()
+    s.take_all()
+    # a higher frequency that waits does not judge yet
+    s.change(CSP_1, 2, 1, 1)
+    s.change(CSP_1, 9, 8, 10)
+    s.bad(2)
+    s.take_all()
+    s.change(CSP_1, 2, 2, demand=1)
+    s.bad()
+    s.take_all()
+    s.bad()
+    s.take_all()
+    # all units screened and not recalled stay, to be found
+    s.good()
+    s.bad()
+    s.good()
+    s.change(CSP_1, 3, 3, 50)
+    s.find()
+    s.find()
+    s.find()
+    s.take_all()
+
+
+@session
+def change_breaks_no_silence(s):
+    """Change: a change is no unit: ticks before and after it count on."""
+    s.open(CSP_1, 3, 2, 50)
+    s.tick()
+    s.change(CSP_1, 2, 1)
+    s.tick()
+    s.change(CSP_1, 4, 3)
+    s.tick()
+    s.change(CSP_1, 5, 4, demand=1)
+    s.tick()
+    s.change(CSP_1, 5, 4)
+    s.tick()
+    s.take_all()
+    s.good(4)
+    s.tick()
+    s.change(CSP_1, 6, 5)
+    s.tick()
+    s.change(CSP_1, 4, 3)
+    s.tick()
+    s.take_all()
+
+
+@session
+def change_refused(s):
+    """Change: 4 before 11, each reason of 11, 11 before 3, and 3; a refused change leaves the plan that waits."""
+    s.open(CSP_1, 4, 3, 50)
+    s.change(CSP_1, 3, 2)
+    s.inspected()
+    s.change(CSP_1, 5, 4)
+    s.change(CSP_2, 5, 4)
+    s.change(CSP_1, 2, 1, 0, demand=1)
+    s.result(0)
+    # 11: another type; n rises and i does not; n falls and i does not; then the same with numbers out of range
+    for type in (0, CSP_2, CSP_F, CSP_T, 6, TOP):
+        s.change(type, 5, 4)
+    s.change(CSP_V, 5, 4, x=1)
+    for n, i in ((5, 3), (5, 2), (3, 3), (3, 4), (1_000, 3), (TOP, 0), (0, 3), (1, 10_001)):
+        s.change(CSP_1, n, i)
+        s.change(CSP_1, n, i, demand=1)
+    s.change(CSP_2, 4, 0)
+    # 3: the change would be allowed, and the plan is out of range; an equal frequency too
+    for n, i in ((201, 4), (TOP, 4), (1, 2), (0, 2), (3, 0), (5, 10_001), (4, 0), (4, 10_001)):
+        s.change(CSP_1, n, i)
+        s.change(CSP_1, n, i, demand=1)
+    for plan in ((5, 4, 3), (5, 4, 100_001), (3, 2, 1), (5, 4, 4, 1), (5, 4, 4, 0, 1), (4, 3, 2), (4, 3, 3, 1)):
+        s.change(CSP_1, *plan)
+    s.take_all()
+    # the plan in force is compared, not the one that waits: 4 and 3, not 3 and 2
+    s.change(CSP_1, 3, 3)
+    s.good(2)
+    s.take_all()
+    # in sampling, with a plan that waits
+    s.change(CSP_1, 5, 4)
+    for plan in ((CSP_1, 6, 2), (CSP_2, 6, 5), (CSP_1, 2, 2), (CSP_1, 2, 0), (CSP_1, 201, 5)):
+        s.change(*plan)
+        s.change(*plan, demand=1)
+    s.inspected()
+    s.change(CSP_1, 6, 5)
+    s.change(CSP_1, 2, 1)
+    s.result(1)
+    s.take_all()
+
+
+@session
+def change_compared(s):
+    """Change: the new plan is held to the plan in force, not to the one that waits, each time."""
+    s.open(CSP_1, 5, 4, 50)
+    # n 2 waits; n 3 is a higher frequency all the same, and n 2 with another i replaces n 2
+    s.change(CSP_1, 2, 1)
+    s.change(CSP_1, 3, 3)
+    s.change(CSP_1, 2, 2)
+    s.change(CSP_1, 2, 3)
+    s.good(4)
+    s.take_all()
+    # n 9 waits; n 7 rises from 2, and so does i; so do n 9 and i 5 anew
+    s.change(CSP_1, 9, 4)
+    s.change(CSP_1, 7, 5, 50)
+    s.change(CSP_1, 9, 5, 50)
+    s.interrupt()
+    s.good(4)
+    s.take_all()
+    s.good()
+    s.take_all()
+
+
+@session
+def change_csp_f(s):
+    """Change: at a CSP-F station every change gets 11, an equal frequency and a plan out of range too; 4 comes before."""
+    s.open(CSP_F, 3, 2, N=20)
+    plans = (
+        (CSP_F, 3, 2, 0, 0, 20), (CSP_F, 5, 4, 0, 0, 20), (CSP_F, 2, 1, 0, 0, 20), (CSP_F, 5, 4, 0, 0, 0), (CSP_1, 5, 4),
+        (0, 0, 0, 0),
+    )
+    for _ in range(2):
+        for plan in plans:
+            s.change(*plan)
+            s.change(*plan, demand=1)
+        s.inspected()
+        for plan in plans:
+            s.change(*plan)
+        s.result(0)
+        s.good()
+    s.take_all()
+
+
+@session
+def change_ill_formed(s):
+    """Change: frame 09 with a demand that is neither 0 nor 1, a word more or less, or lower case gets 9, before 2 and before 4."""
+    plan = (CSP_1, 2, 1, 10, 0, 0)
+    lines = [
+        words(9, *plan, 2), words(9, *plan, TOP), words(9, *plan, 0x100), words(9, *plan), words(9, *plan, 0, 0),
+        words(9, *plan, 0) + b' ', words(9, *plan, 1) + b'\r', words(9, *plan, 0).lower(), words(9, CSP_2, 5, 4, 4, 0, 0, 2),
+    ]
+    lines.append(lines[0].replace(b' ', b''))
+
+    def sent():
+        for line in lines:
+            s.line(line)
+
+    sent()
+    s.change(*plan)
+    s.change(0, 0, 0, 0, demand=1)
+    s.open(CSP_1, 3, 2, 10)
+    sent()
+    s.inspected()
+    sent()
+    s.change(*plan)
+    s.result(0)
+    s.good()
+    s.take_all()
 
 
 # ---- Pinned sessions: crates/rules/proofs computes their answers from the definitions, in Sessions.antt and Program.antt
