@@ -1728,6 +1728,212 @@ def pinned_csp_v(s):
 
 
 @session
+def pinned_csp_1_change(s):
+    """Pinned. CSP-1: a change each way in each phase and on demand; what waits, what is replaced and what is refused."""
+    s.open(CSP_1, 3, 2, 9, seed=0x1D4C52B3)
+    # a higher frequency waits, and breaks no silence; a jump and an interrupt in screening take up nothing; owed, 4 is first
+    s.tick()
+    s.change(CSP_1, 2, 1)
+    s.tick()
+    s.unit(3)
+    s.change(CSP_2, 4, 3, 2)
+    s.result(0)
+    s.interrupt()
+    # 11 for the type, for an i that does not fall with n, and before 3; then 3; an equal frequency: what waits goes on waiting
+    s.change(CSP_2, 4, 3)
+    s.change(CSP_1, 2, 2)
+    s.change(CSP_1, 4, 2, 1)
+    s.change(CSP_1, 4, 3, 2)
+    s.change(CSP_1, 3, 1, demand=1)
+    # the old need of 2 is reached: PHASE, PLAN
+    s.good(2)
+    s.take(7)
+    # a lower one waits, a second replaces it, and a defect takes it up: DEFECT, PHASE, PLAN
+    s.change(CSP_1, 5, 4)
+    s.change(CSP_1, 4, 2, 9)
+    s.bad()
+    s.take(3)
+    # on demand in screening: a fresh sequence of the new i of 3
+    s.good()
+    s.change(CSP_1, 5, 3, 9, demand=1)
+    s.find()
+    s.good(2)
+    s.bad()
+    # at once in screening: what was screened stays, the new S judges it, and there is something to find
+    s.change(CSP_1, 6, 4, 4)
+    s.bad()
+    s.find()
+    s.good(4)
+    s.take(7)
+    # at once in sampling: a new block; an interrupt finds nothing that waits
+    s.units(1)
+    s.change(CSP_1, 7, 5)
+    s.change(CSP_1, 2, 1)
+    s.units(3)
+    s.interrupt()
+    # on demand in sampling: PHASE, PLAN
+    s.good()
+    s.change(CSP_1, 3, 2, demand=1)
+    s.take_all()
+
+
+@session
+def pinned_csp_2_change(s):
+    """Pinned. CSP-2: a change each way in each phase and on demand; a watch stays on with count 0."""
+    s.open(CSP_2, 3, 2, 9, seed=0xEB5DCE1E)
+    # at once in screening: the run of 1 stays, and what waited is gone
+    s.good()
+    s.change(CSP_2, 2, 1)
+    s.change(CSP_2, 4, 3, 9)
+    s.good(2)
+    # at once in sampling: a watch that has counted 1 stays on with count 0, and the second defect reverts
+    s.bad()
+    s.good()
+    s.change(CSP_2, 5, 4)
+    s.change(CSP_2, 3, 2, 9)
+    s.good()
+    s.bad()
+    s.take(7)
+    # a higher frequency waits; a find and a defect in screening, refusals and an equal frequency leave it
+    s.change(CSP_2, 2, 1)
+    s.good()
+    s.find()
+    s.bad()
+    s.change(CSP_2, 2, 2)
+    s.change(CSP_2, 201, 3)
+    s.change(CSP_2, 3, 1)
+    s.good(2)
+    s.take(4)
+    # a lower one waits, a second replaces it, and a jump in the watch takes it up: MISSED, PHASE, PLAN
+    s.bad()
+    s.change(CSP_2, 5, 4)
+    s.change(CSP_2, 3, 2, 9)
+    s.unit(s.station.last + 2)
+    s.change(CSP_2, 4, 3)
+    s.result(0)
+    # on demand in screening
+    s.change(CSP_2, 2, 1, demand=1)
+    s.take(5)
+    s.good()
+    # on demand in sampling: PHASE, PLAN, and the watch is gone and what waited; at once in sampling: no watch is put on
+    s.bad()
+    s.change(CSP_2, 5, 4)
+    s.change(CSP_2, 3, 2, 9, demand=1)
+    s.good(2)
+    s.change(CSP_2, 2, 1)
+    s.bad()
+    s.take_all()
+
+
+@session
+def pinned_csp_t_change(s):
+    """Pinned. CSP-T: a change each way in each phase and on demand; at level 2, PHASE and then PLAN."""
+    s.open(CSP_T, 4, 3, 9, seed=0xF44E0355)
+    # at once in sampling at level 0: PLAN alone, and the row begins anew
+    s.good(3)
+    s.good()
+    s.change(CSP_T, 3, 2, 9)
+    # a lower one waits; levels 1 and 2 take up nothing
+    s.change(CSP_T, 5, 4)
+    s.good(2)
+    s.good(2)
+    s.take(5)
+    # at once in sampling at level 2: PHASE, PLAN; one good sample is level 1
+    s.change(CSP_T, 2, 1)
+    s.good()
+    # on demand in sampling: PHASE, PLAN
+    s.change(CSP_T, 3, 2, 9, demand=1)
+    s.take(5)
+    # at once in screening: the run of 1 stays; on demand in screening: it begins again, and what waited is gone
+    s.good()
+    s.change(CSP_T, 4, 3, 9)
+    s.good()
+    s.change(CSP_T, 2, 1)
+    s.change(CSP_T, 3, 2, 9, demand=1)
+    s.good(2)
+    s.take(3)
+    # a lower one waits, a second replaces it, and an interrupt takes it up: INTERRUPT, PHASE, PLAN
+    s.change(CSP_T, 5, 4)
+    s.change(CSP_T, 4, 3, 9)
+    s.interrupt()
+    # a higher one waits for the shift, whatever is refused: PHASE, PLAN; the next interrupt finds nothing that waits
+    s.change(CSP_T, 2, 1)
+    s.change(CSP_T, 2, 3)
+    s.change(CSP_T, 4, 3, 2)
+    s.change(CSP_T, 4, 9)
+    s.good(2)
+    s.unit()
+    s.change(CSP_T, 5, 4)
+    s.result(0)
+    s.interrupt()
+    s.take_all()
+
+
+@session
+def pinned_csp_v_change(s):
+    """Pinned. CSP-V: a change each way in each phase and on demand; the old i judges the samples, need is the new x or i."""
+    s.open(CSP_V, 2, 1, 9, x=1, seed=0xFEFAF71D)
+    # a lower frequency waits; one good sample reaches the old i of 1: need is the new x of 2
+    s.good()
+    s.change(CSP_V, 3, 3, 9, x=2)
+    s.good()
+    s.bad()
+    s.good(2)
+    # at once in sampling: the row begins anew, and a defect does not reach the old i of 1: need is the new i of 2;
+    # its three events find one place free, and two are dropped
+    s.good()
+    s.change(CSP_V, 2, 1, 9, x=1)
+    s.change(CSP_V, 3, 2, 9, x=1)
+    s.bad()
+    s.take(8)
+    s.good()
+    # a higher frequency waits for the shift: PHASE, PLAN
+    s.change(CSP_V, 2, 1, 9, x=1)
+    s.change(CSP_V, 4, 2)
+    s.change(CSP_V, 4, 3, 9)
+    s.change(CSP_V, 3, 9, x=9)
+    s.good()
+    # an interrupt after a good sample takes up a lower one: need is the new i of 2, not x
+    s.inspected()
+    s.change(CSP_V, 3, 2, 9, x=1)
+    s.result(0)
+    s.change(CSP_V, 3, 2, 9, x=1)
+    s.interrupt()
+    s.good()
+    s.take(7)
+    s.good()
+    # two good samples and a defect: need is x of 1; at once in screening: need is the new i of 3
+    s.good(2)
+    s.bad()
+    s.change(CSP_V, 4, 3, 9, x=1)
+    s.good()
+    # on demand in screening and in sampling: need is the new i, never x
+    s.change(CSP_V, 3, 2, 9, x=1, demand=1)
+    s.good()
+    s.take(5)
+    s.good()
+    s.change(CSP_V, 4, 3, 9, x=1, demand=1)
+    s.good()
+    s.take_all()
+
+
+@session
+def pinned_csp_f_change(s):
+    """Pinned. CSP-F: every change gets 11, in either phase; while a result is owed, 4."""
+    s.open(CSP_F, 3, 2, N=20, seed=0x7F4A7C15)
+    s.change(CSP_F, 4, 3, N=20)
+    s.change(CSP_F, 3, 2, N=20)
+    s.change(CSP_F, 2, 1, N=0)
+    s.unit()
+    s.change(CSP_F, 4, 3, N=20)
+    s.result(0)
+    s.good()
+    s.change(CSP_F, 2, 1, N=20, demand=1)
+    s.change(CSP_F, 4, 3, N=20)
+    s.take_all()
+
+
+@session
 def pinned_program(s):
     """Pinned. The program: calls before an open, opens refused and taken, ill-formed lines, a torn last line."""
     # before an open each call gets 2, and an ill-formed line 9
@@ -1842,3 +2048,28 @@ def pinned_open_f(s):
     s.units(7)
     s.unit(9)
     s.take_all()
+
+
+@session
+def pinned_change(s):
+    """Pinned. Frame 09: before an open, ill-formed, refused 11 and 3, waiting and on demand; take tells kind 0A."""
+    # before an open it gets 2, and a demand that is neither 0 nor 1 gets 9
+    s.change(CSP_1, 2, 2)
+    s.line(words(9, CSP_1, 2, 2, 2, 0, 0, 2))
+    # a higher frequency waits, and tells nothing
+    s.open(CSP_1, 3, 3, 5)
+    s.change(CSP_1, 2, 2)
+    s.take(2)
+    # ill-formed: a demand of 2, a word less, a word more, lower case; then another type, and a plan out of range
+    s.line(words(9, CSP_1, 5, 4, 4, 0, 0, 2))
+    s.line(words(9, CSP_1, 5, 4, 4, 0, 0))
+    s.line(words(9, CSP_1, 5, 4, 4, 0, 0, 0, 0))
+    s.line(words(9, CSP_1, 5, 4, 10, 0, 0, 0).lower())
+    s.change(CSP_2, 5, 4)
+    s.change(CSP_1, 5, 4, 3)
+    # the shift takes it up
+    s.good(3)
+    s.take(2)
+    # on demand
+    s.change(CSP_1, 5, 4, demand=1)
+    s.take(3)
