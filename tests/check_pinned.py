@@ -13,7 +13,9 @@ from script import words
 
 PROOFS = ROOT / 'crates' / 'rules' / 'proofs'
 SESSIONS = ROOT / 'sessions'
-CODES = {'UnitOf': 2, 'Result': 3, 'Interrupt': 4, 'CheckFind': 5, 'Tick': 6, 'Take': 7}
+CODES = {'UnitOf': 2, 'Result': 3, 'Interrupt': 4, 'CheckFind': 5, 'Tick': 6, 'Take': 7, 'change': 9}
+CHANGE = 'change kind n i S x N demand = Change (record { kind = kind; n = n; i = i; s = S; x = x; period = N }) demand'
+DEMANDS = {'false': 0, 'true': 1}
 NUMERAL = r'0x[0-9A-F]+|\d+'
 
 
@@ -65,6 +67,7 @@ def number(word):
 
 def sessions(report):
     text = read(report, 'Sessions.antt', 'sessions-hold : allOf seen sessions ≡ allOf due sessions')
+    report.check(f'\n{CHANGE}\n' in text, 'Sessions.antt does not have the numbers of a change in the order of a frame')
     names = definitions(text)
     for name, body in tables(report, text, 'Session', 'sessions').items():
         plan, seed, rows, tallies = session_parts(body)
@@ -72,10 +75,15 @@ def sessions(report):
         answers = [model.DONE]
         for call, answer in expanded(names, rows):
             code, *arguments = call.split()
-            lines.append(words(CODES[code], *map(number, arguments)))
+            lines.append(words(CODES[code], *map(argument, arguments)))
             answers.append(tuple(map(number, spelled(names, answer).removesuffix(' ∷ []').split(' ∷ '))))
         report.check(model_tallies(lines) == tallies, f'{name}: the tallies are not those of the model')
         yield name, b''.join(line + b'\n' for line in lines), b''.join(map(model.written, answers))
+
+
+def argument(word):
+    """A number, or whether a change is on demand."""
+    return DEMANDS[word] if word in DEMANDS else number(word)
 
 
 def definitions(text):

@@ -1034,7 +1034,7 @@ def change_taken_up(s):
 
 @session
 def change_csp_v_row(s):
-    """Change: taken up as CSP-V reverts, the old i of 2 judges the samples: new x 3 after 2, new i 4 after 1, a stop or a jump."""
+    """Change: taken up as CSP-V reverts, the old i of 2 judges the samples; by an interrupt or a jump, need is the new i."""
     old, new = (CSP_V, 3, 2, 50, 1), (CSP_V, 5, 4, 50, 3)
     s.open(*old, seed=8)
 
@@ -1092,7 +1092,7 @@ def change_not_taken_up(s):
 
 @session
 def change_csp_t_levels(s):
-    """Change: a new level takes up nothing; a change at once at level 2 and at level 1 tells PHASE 1, then PLAN, at 0 PLAN alone."""
+    """Change: a new CSP-T level takes up nothing; at once, at levels 2 and 1 it tells PHASE 1, then PLAN, at level 0 PLAN alone."""
     s.open(CSP_T, 5, 4, 50, seed=12)
     s.good(4)
     s.change(CSP_T, 7, 5)
@@ -1381,7 +1381,7 @@ def change_csp_f(s):
 
 @session
 def change_ill_formed(s):
-    """Change: frame 09 with a demand that is neither 0 nor 1, a word more or less, or lower case gets 9, before 2 and before 4."""
+    """Change: frame 09 with a demand neither 0 nor 1, a word more or less, or lower case gets 9, before 2 and before 4."""
     plan = (CSP_1, 2, 1, 10, 0, 0)
     lines = [
         words(9, *plan, 2), words(9, *plan, TOP), words(9, *plan, 0x100), words(9, *plan), words(9, *plan, 0, 0),
@@ -1731,7 +1731,7 @@ def pinned_csp_v(s):
 def pinned_csp_1_change(s):
     """Pinned. CSP-1: a change each way in each phase and on demand; what waits, what is replaced and what is refused."""
     s.open(CSP_1, 3, 2, 9, seed=0x1D4C52B3)
-    # a higher frequency waits, and breaks no silence; a jump and an interrupt in screening take up nothing; owed, 4 is first
+    # a higher frequency waits, and breaks no silence; while a result is owed, 4; a jump and an interrupt leave it waiting
     s.tick()
     s.change(CSP_1, 2, 1)
     s.tick()
@@ -1739,7 +1739,7 @@ def pinned_csp_1_change(s):
     s.change(CSP_2, 4, 3, 2)
     s.result(0)
     s.interrupt()
-    # 11 for the type, for an i that does not fall with n, and before 3; then 3; an equal frequency: what waits goes on waiting
+    # 11 for the type, for an i that does not fall with n, and before 3; then 3; an equal frequency; what waits stays
     s.change(CSP_2, 4, 3)
     s.change(CSP_1, 2, 2)
     s.change(CSP_1, 4, 2, 1)
