@@ -1092,7 +1092,7 @@ def change_not_taken_up(s):
 
 @session
 def change_csp_t_levels(s):
-    """Change: a new CSP-T level takes up nothing; at once, at levels 2 and 1 it tells PHASE 1, then PLAN, at level 0 PLAN alone."""
+    """Change: a new CSP-T level takes up nothing; at once at levels 2 and 1 it tells PHASE 1, then PLAN, at 0 PLAN alone."""
     s.open(CSP_T, 5, 4, 50, seed=12)
     s.good(4)
     s.change(CSP_T, 7, 5)
@@ -1730,7 +1730,7 @@ def pinned_csp_v(s):
 @session
 def pinned_csp_1_change(s):
     """Pinned. CSP-1: a change each way in each phase and on demand; what waits, what is replaced and what is refused."""
-    s.open(CSP_1, 3, 2, 9, seed=0x1D4C52B3)
+    s.open(CSP_1, 3, 2, 9, seed=0x0AE50166)
     # a higher frequency waits, and breaks no silence; while a result is owed, 4; a jump and an interrupt leave it waiting
     s.tick()
     s.change(CSP_1, 2, 1)
@@ -1739,14 +1739,15 @@ def pinned_csp_1_change(s):
     s.change(CSP_2, 4, 3, 2)
     s.result(0)
     s.interrupt()
-    # 11 for the type, for an i that does not fall with n, and before 3; then 3; an equal frequency; what waits stays
+    # 11 for the type, for an i that does not fall with n, and before 3; then 3; what waits stays
     s.change(CSP_2, 4, 3)
     s.change(CSP_1, 2, 2)
     s.change(CSP_1, 4, 2, 1)
     s.change(CSP_1, 4, 3, 2)
+    # an equal frequency changes nothing, on demand too; then the old need of 2 is reached: PHASE, PLAN
+    s.good()
     s.change(CSP_1, 3, 1, demand=1)
-    # the old need of 2 is reached: PHASE, PLAN
-    s.good(2)
+    s.good()
     s.take(7)
     # a lower one waits, a second replaces it, and a defect takes it up: DEFECT, PHASE, PLAN
     s.change(CSP_1, 5, 4)
@@ -1780,7 +1781,7 @@ def pinned_csp_1_change(s):
 @session
 def pinned_csp_2_change(s):
     """Pinned. CSP-2: a change each way in each phase and on demand; a watch stays on with count 0."""
-    s.open(CSP_2, 3, 2, 9, seed=0xEB5DCE1E)
+    s.open(CSP_2, 3, 2, 9, seed=0xD60DD02C)
     # at once in screening: the run of 1 stays, and what waited is gone
     s.good()
     s.change(CSP_2, 2, 1)
@@ -1828,7 +1829,7 @@ def pinned_csp_2_change(s):
 @session
 def pinned_csp_t_change(s):
     """Pinned. CSP-T: a change each way in each phase and on demand; at level 2, PHASE and then PLAN."""
-    s.open(CSP_T, 4, 3, 9, seed=0xF44E0355)
+    s.open(CSP_T, 4, 3, 9, seed=0xE65CA6B4)
     # at once in sampling at level 0: PLAN alone, and the row begins anew
     s.good(3)
     s.good()
@@ -1872,7 +1873,7 @@ def pinned_csp_t_change(s):
 @session
 def pinned_csp_v_change(s):
     """Pinned. CSP-V: a change each way in each phase and on demand; the old i judges the samples, need is the new x or i."""
-    s.open(CSP_V, 2, 1, 9, x=1, seed=0xFEFAF71D)
+    s.open(CSP_V, 2, 1, 9, x=1, seed=0xD6CDFC18)
     # a lower frequency waits; one good sample reaches the old i of 1: need is the new x of 2
     s.good()
     s.change(CSP_V, 3, 3, 9, x=2)
@@ -1907,10 +1908,13 @@ def pinned_csp_v_change(s):
     s.bad()
     s.change(CSP_V, 4, 3, 9, x=1)
     s.good()
-    # on demand in screening and in sampling: need is the new i, never x
+    # on demand in screening: need is the new i of 2, never x
     s.change(CSP_V, 3, 2, 9, x=1, demand=1)
     s.good()
     s.take(5)
+    s.good()
+    # on demand in sampling, after as many good samples as the i in force: need is the new i of 3, never x
+    s.change(CSP_V, 2, 1, 9, x=1)
     s.good()
     s.change(CSP_V, 4, 3, 9, x=1, demand=1)
     s.good()
