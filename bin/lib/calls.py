@@ -2,20 +2,27 @@
 
 import re
 
-from lib.words import NO_ENTRY, NO_PLAN, NO_RESULT, NOT_OPEN, REFUSALS, SECOND_OPEN, counted, quoted, span
+from lib.words import (
+    LEAST_N, MOST_N, NO_CHANGE, NO_ENTRY, NO_PLAN, NO_RESULT, NOT_OPEN, REFUSALS, SECOND_OPEN, counted, quoted, span,
+)
 
-OPEN, UNIT, RESULT, INTERRUPTED, FIND, TICK, TAKE, TABLE = range(1, 9)
+OPEN, UNIT, RESULT, INTERRUPTED, FIND, TICK, TAKE, TABLE, CHANGE = range(1, 10)
 NO_FRAME = 0
 FRAME = re.compile(rb'[0-9A-F]{2}(?: [0-9A-F]{8})*')
 LONGEST_LINE = 80
 MOST_UNITS = 1_000_000
-WORDS = {OPEN: (7,), UNIT: (1,), RESULT: (1,), INTERRUPTED: (0,), FIND: (0,), TICK: (0,), TAKE: (0,), TABLE: (4, 5)}
+MOST_CLEARANCE = 10_000
+MOST_SCREENED = 100_000
+WORDS = {
+    OPEN: (7,), UNIT: (1,), RESULT: (1,), INTERRUPTED: (0,), FIND: (0,), TICK: (0,), TAKE: (0,), TABLE: (4, 5), CHANGE: (7,),
+}
 NAMES = {
     NO_FRAME: 'ill-formed', OPEN: 'open', UNIT: 'unit', RESULT: 'result', INTERRUPTED: 'interrupt', FIND: 'check find',
-    TICK: 'tick', TAKE: 'take', TABLE: 'open from table',
+    TICK: 'tick', TAKE: 'take', TABLE: 'open from table', CHANGE: 'change',
 }
 TYPES = {1: 'CSP-1', 2: 'CSP-2', 3: 'CSP-F', 4: 'CSP-T', 5: 'CSP-V'}
 LETTERS = 'ABCDEFGHIJK'
+LETTERS_N = (2, 3, 4, 5, 7, 10, 15, 25, 50, 100, 100)  # n of each letter, in both tables
 RESULTS = ('conforming', 'defective')
 
 # The refusals that the program gives to each call, and the words where they say more than those for any call.
@@ -29,6 +36,7 @@ REFUSED = {
     FIND: {2: NOT_OPEN, 4: '', 8: '', 10: ''},
     TICK: {2: NOT_OPEN, 10: ''},
     TAKE: {2: NOT_OPEN},
+    CHANGE: {2: NOT_OPEN, 3: NO_PLAN, 4: '', 10: '', 11: NO_CHANGE},
 }
 
 
@@ -36,7 +44,7 @@ def read_frame(line):
     """The code and the words of a line, its line feed cut off. What is no frame has the code NO_FRAME and the line."""
     if len(line) <= LONGEST_LINE and FRAME.fullmatch(line):
         code, *words = (int(part, 16) for part in line.split(b' '))
-        if len(words) in WORDS.get(code, ()):
+        if len(words) in WORDS.get(code, ()) and (code != CHANGE or words[-1] <= 1):
             return code, tuple(words)
     return NO_FRAME, (line,)
 
@@ -62,12 +70,22 @@ def asked(code, words):
     return ASKING[code](*words)
 
 
-def plan(type, n, i, S, x, N, seed):
+def plan(type, n, i, S, x, N):
     """The numbers that the type has; all of them where there is no such type."""
     numbers = {'n': n, 'i': i, 'S': S, 'x': x, 'N': N}
     idle = {'CSP-F': 'Sx', 'CSP-V': 'N'}.get(TYPES.get(type), 'xN') if type in TYPES else ''
     told = [f'{name} {number:,}' for name, number in numbers.items() if number or name not in idle]
-    return ' '.join([TYPES.get(type, f'type {type:,}'), *told, f'seed 0x{seed:X}'])
+    return ' '.join([TYPES.get(type, f'type {type:,}'), *told])
+
+
+def seeded(*words):
+    *numbers, seed = words
+    return f'{plan(*numbers)} seed 0x{seed:X}'
+
+
+def change_asked(*words):
+    *numbers, demanded = words
+    return f'change {"on demand " if demanded else ""}to {plan(*numbers)}'
 
 
 def table_entry(type, letter, aql, N, seed=0):
@@ -84,13 +102,26 @@ def unit_limit(code, words):
     return period if TYPES.get(words[0]) == 'CSP-F' else MOST_UNITS
 
 
+def frequency(code, words):
+    """The n of an opened plan; None for a letter that no table has."""
+    if code == OPEN:
+        return words[1]
+    return LETTERS_N[words[1] - 1] if 1 <= words[1] <= len(LETTERS) else None
+
+
+def in_range(type, n, i, S, x, N):
+    """Whether a plan that another may change to is within document 01's ranges: of any type but CSP-F."""
+    reduced = 1 <= x <= i if TYPES[type] == 'CSP-V' else x == 0
+    return LEAST_N <= n <= MOST_N and 1 <= i <= MOST_CLEARANCE and i <= S <= MOST_SCREENED and reduced and N == 0
+
+
 def result_asked(value):
     return f'result: {RESULTS[value]}' if value < len(RESULTS) else f'result {value:,}'
 
 
 ASKING = {
     NO_FRAME: lambda *line: 'ill-formed frame',
-    OPEN: lambda *words: f'open {plan(*words)}',
+    OPEN: lambda *words: f'open {seeded(*words)}',
     TABLE: lambda *words: f'open {table_entry(*words)}',
     UNIT: lambda number: f'unit {number:,}',
     RESULT: result_asked,
@@ -98,6 +129,7 @@ ASKING = {
     FIND: lambda: 'check find',
     TICK: lambda: 'tick',
     TAKE: lambda: 'take',
+    CHANGE: change_asked,
 }
 
 

@@ -1,19 +1,24 @@
-"""What a station can write: document 01's rules as they show in the journal alone.
+"""What a station can write: the rules of documents 01 and 02 as they show in the journal alone.
 
 A History hears the entries in their order and says of each why no station could have written it, or nothing. It knows
-neither the plan's type nor n nor S; it draws on what the entries tell and on nothing else. Whatever a marker or a hole
-may hide it forgets, so that it never calls impossible what a station can write.
+neither the plan's type nor S, and n only where it is told the plan that was opened or a PLAN has come; it draws on what
+the entries tell and on nothing else. Whatever a marker or a hole may hide it forgets, so that it never calls impossible
+what a station can write. A change of plan leaves much open: in screening the same PLAN may come at once, and run and
+screened go on, or on demand, and they start anew. So where they count from is one of several units.
 """
 
-from lib.calls import MOST_UNITS
-from lib.words import CHECK, DEFECT, INTERRUPT, KINDS, LONG, MISSED, PHASE, PHASES, SILENCE, START, counted
+from lib.calls import MOST_CLEARANCE, MOST_UNITS
+from lib.words import (
+    CHECK, DEFECT, INTERRUPT, KINDS, LEAST_N, LONG, MISSED, MOST_N, PHASE, PHASES, PLAN, SILENCE, START, counted, one_in,
+)
 
 MOST_EVENTS = 8_000_000
-MOST_CLEARANCE = 10_000
+LAST_FIRST = MOST_EVENTS - 2  # the last number for a call's first event: three are left when a call is taken
+LATEST = {PLAN: MOST_EVENTS, PHASE: MOST_EVENTS - 1, LONG: MOST_EVENTS - 1}  # PLAN alone is ever the third of a call
 LEAST_ROOM = 8
 SCREENING, SAMPLING = 0, 1
 CSP_2, CSP_T = 'CSP-2', 'CSP-T'
-LEAST_BLOCK = {2: 2, 3: 4}  # L at the level that a PHASE to level 1 or to level 2 leaves, where n is 2
+BLOCK = {2: 1, 3: 2}  # L, in multiples of n, at the level that a PHASE to level 1 or to level 2 leaves
 
 
 class Impossible(Exception):
@@ -33,17 +38,31 @@ class Due:
 
 
 class History:
-    def __init__(self):
-        self.clearance = None          # i, once START has told it
+    """`asked`: the units after which a change of plan was taken, where the calls are known; None where they are not."""
+
+    def __init__(self, asked=None):
+        self.asked = asked
+        self.opened = None             # the n that was opened, where it is known
+        self.clearance = None          # the i that was opened, once START has told it
         self.type = None               # CSP-2 or CSP-T, once an event has shown that it is
-        self.long_at = MOST_UNITS + 1  # the least number of units screened at which LONG came: S is no more
-        self.quiet_at = 0              # the most at which a defect came with no LONG: S is more, or there is no alarm
         self.last = 0                  # the last unit, as far as it is told
         self.settled = 0               # up to this unit no result can be owed
+        self.forget_plan()
         self.forget()
+
+    def forget_plan(self):
+        self.n = LEAST_N, MOST_N       # the least and the most that n and i in force can be
+        self.i = 1, MOST_CLEARANCE
+        self.forget_alarm()
+
+    def forget_alarm(self):
+        self.long_at = MOST_UNITS + 1  # the least number of units screened at which LONG came: S is no more
+        self.quiet_at = 0              # the most at which a defect came with no LONG: S is more, or there is no alarm
 
     def forget(self):
         """What an event that is not told may have changed."""
+        if self.asked is None or self.asked:
+            self.forget_plan()
         self.phase = None              # 0 screening, 1 to 3 sampling level 0 to 2
         self.level_from = None         # the unit after which the level began
         self.forget_screening()
@@ -52,8 +71,8 @@ class History:
         self.alone = True              # the event before is not known
 
     def forget_screening(self):
-        self.run_from = None           # the unit after which run counts
-        self.screened_from = None      # the unit after which screened counts
+        self.run_from = ()             # the units after which run may count, none where that is not known
+        self.screened_from = ()        # the units after which screened may count
         self.sequence = None           # the unit after which the screening sequence began
         self.spent = 0                 # units of the sequence that were defective or recalled
         self.reduced = True            # need may be below i, as under CSP-V
@@ -67,7 +86,9 @@ class History:
                 raise Impossible('a second START' if kind == START else 'event 1 is START')
             if unit > MOST_UNITS:
                 raise Impossible(f'unit numbers end at {MOST_UNITS:,}')
-            if self.due is not None or kind == PHASE or kind == LONG:
+            if number > LAST_FIRST and number > LATEST.get(kind, LAST_FIRST):
+                raise Impossible(f'no {KINDS[kind]} has a number above {LATEST.get(kind, LAST_FIRST):,}')
+            if self.due is not None or kind in FOLLOWING:
                 self.answer_due(kind, unit, value)
             RULES[kind](self, number, unit, value)
         except Impossible as why:
@@ -82,25 +103,25 @@ class History:
         self.last, self.settled = unit, max(0, unit - 1)
 
     def answer_due(self, kind, unit, value):
-        """Whether the entry is what the one before calls for. LONG and PHASE to screening come for no other reason."""
+        """Whether the entry is what the one before calls for. LONG comes for no other reason."""
         due, self.due, self.caused = self.due, None, None
-        follows = kind == LONG or (kind == PHASE and value == SCREENING)
-        if due is None:
-            demand(not follows or self.alone, 'no cause for it stands just before it')
-        elif follows and due.kind == kind:
+        called = due is not None and due.kind == kind and (kind != PHASE or value == SCREENING)
+        if called and unit == due.unit:
             self.caused = due
-            if unit != due.unit:
-                raise Impossible(f'the {due.cause} just before it calls for unit {due.unit:,}')
-        elif due.certain:
+        elif called and (due.certain or kind == LONG):
+            raise Impossible(f'the {due.cause} just before it calls for unit {due.unit:,}')
+        elif due is not None and due.certain:
             raise Impossible(f'the {due.cause} just before it calls for {KINDS[due.kind]} next')
         else:
-            demand(not follows, 'no cause for it stands just before it')
+            demand(kind != LONG or self.alone, 'no cause for it stands just before it')
             self.nothing_came(due)
 
     def nothing_came(self, due):
         """What it shows that a defect was followed by neither LONG nor PHASE."""
-        if due.kind == LONG and self.screened_from is not None:
-            self.quiet_at = max(self.quiet_at, due.unit - self.screened_from)
+        if due is None:
+            return
+        if due.kind == LONG and self.screened_from:
+            self.quiet_at = max(self.quiet_at, due.unit - max(self.screened_from))
         elif due.cause == 'DEFECT' and due.kind == PHASE:
             self.settle_type(CSP_2)
 
@@ -117,21 +138,21 @@ class History:
             raise Impossible(f'units run backwards: unit {self.last:,} came before')
         if handled and unit <= self.settled:
             raise Impossible(f'the result of unit {unit:,} was given before')
-        if self.phase == SCREENING and self.run_from is not None:
+        if self.phase == SCREENING and self.run_from:
             self.before_sampling(unit, settles and not handled)
         self.last, self.settled = unit, unit if settles else max(self.settled, unit - 1)
 
     def before_sampling(self, unit, settled):
         """Run reaches need at the latest i units on, and then PHASE is told."""
-        end = self.run_from + (self.clearance or MOST_CLEARANCE)
+        end = max(self.run_from) + self.i[1]
         if unit > end or (settled and unit == end):
             raise Impossible(f'sampling starts with unit {end:,} at the latest, and no PHASE before tells it')
 
     def screen(self, unit, reduced=False):
         """A screening sequence starts after this unit."""
         self.phase, self.level_from = SCREENING, None
-        self.run_from = self.screened_from = self.sequence = unit
-        self.spent, self.reduced = 0, reduced
+        self.run_from = self.screened_from = (unit,)
+        self.sequence, self.spent, self.reduced = unit, 0, reduced
 
     # ---- One rule for each kind
 
@@ -139,6 +160,9 @@ class History:
         demand(unit == 0, 'START has unit 0')
         demand(1 <= value <= MOST_CLEARANCE, f'a clearance number is 1 to {MOST_CLEARANCE:,}')
         self.clearance, self.silence = value, (0, 0)
+        self.i = value, value
+        if self.opened is not None:
+            self.n = self.opened, self.opened
         self.screen(0)
 
     def phase_told(self, number, unit, value):
@@ -150,55 +174,82 @@ class History:
             self.sample(unit, value)
 
     def revert(self, unit):
-        """MISSED and INTERRUPT have said what starts; a defective sample reverts here; after a marker neither is known."""
-        if self.caused is None:
+        """MISSED and INTERRUPT have said what starts; a defective sample reverts here; with no cause it is a demand."""
+        cause = 'PHASE with no cause'
+        if self.caused is not None:
+            cause = self.caused.cause
+            if cause == 'DEFECT':
+                self.screen(unit, reduced=self.type is None)
+        elif self.alone:
+            cause = None
             self.at(unit, settles=False, handled=False)
             self.phase = SCREENING
-        elif self.caused.cause == 'DEFECT':
-            self.screen(unit, reduced=self.type is None)
+        else:
+            demand(self.phase != SCREENING, 'the phase is screening already')
+            self.at(unit, settles=True, handled=False)
+            self.screen(unit)
+        self.due = Due(PLAN, unit, cause == 'PHASE with no cause', cause)
 
     def sample(self, unit, value):
         if self.phase == value:
             raise Impossible(f'the phase is {PHASES[value]} already')
+        if value == SAMPLING and self.drops(unit):
+            self.at(unit, settles=True, handled=False)
+            self.due = Due(PLAN, unit, True, 'PHASE to level 0')
+        else:
+            self.step(unit, value)
+        self.forget_screening()
+        self.phase, self.level_from = value, unit
+
+    def drops(self, unit):
+        """Whether sampling goes back to level 0 by a change of plan, as under CSP-T; its unit may have been told."""
+        after_marker = self.phase is None and self.type != CSP_2 and unit <= self.settled
+        return after_marker or self.phase not in (None, SCREENING)
+
+    def step(self, unit, value):
+        """A conforming unit leads from screening to level 0, or to the next level."""
         if self.phase not in (None, value - 1):
             raise Impossible(f'no step leads from {PHASES[self.phase]} to {PHASES[value]}')
         self.at(unit, settles=True, handled=True)
         if value > SAMPLING:
             self.settle_type(CSP_T)
             self.samples_enough(unit, value)
-        else:
+        elif self.run_from:
             self.run_enough(unit)
-        self.forget_screening()
-        self.phase, self.level_from = value, unit
 
     def run_enough(self, unit):
-        """Run has reached need: i units since it began, or fewer where need may be x."""
-        need = self.clearance
-        if self.run_from is not None and need is not None and not self.reduced and unit - self.run_from < need:
-            began = f'unit {self.run_from:,}' if self.run_from else 'START'
-            raise Impossible(f'{counted(unit - self.run_from, "unit")} since {began}, and the clearance number is {need:,}')
+        """Run has reached need, which tells i: need is i, or where it may be x no more than i."""
+        least, most = self.i
+        fit = [unit - began for began in self.run_from if self.reduced or unit - began >= least]
+        if not fit:
+            first = min(self.run_from)
+            began, known = f'unit {first:,}' if first else 'START', f'{least:,}' if least == most else f'{least:,} or more'
+            raise Impossible(f'{counted(unit - first, "unit")} since {began}, and the clearance number is {known}')
+        self.i = max(least, min(fit)), most if self.reduced else min(most, max(fit))
 
     def samples_enough(self, unit, value):
-        """A level is left after i good samples, one from each block."""
-        if self.level_from is None or self.clearance is None:
+        """A level is left with the i-th good sample, one from each block."""
+        if self.level_from is None:
             return
-        least = LEAST_BLOCK[value] * (self.clearance - 1) + 1
-        if unit - self.level_from < least:
-            samples, units = counted(self.clearance, 'good sample'), counted(least, 'unit')
-            raise Impossible(f'{samples} after unit {self.level_from:,} take at least {units}')
+        least, most = BLOCK[value] * self.n[0] * (self.i[0] - 1) + 1, BLOCK[value] * self.n[1] * self.i[1]
+        if not least <= unit - self.level_from <= most:
+            bound, samples = ('least', self.i[0]) if unit - self.level_from < least else ('most', self.i[1])
+            units = counted(least if bound == 'least' else most, 'unit')
+            raise Impossible(f'{counted(samples, "good sample")} after unit {self.level_from:,} take at {bound} {units}')
 
     def long_screening(self, number, unit, value):
         if self.caused is None:
             self.at(unit, settles=True, handled=True)
             self.defect_in_screening(unit)
         demand(0 < value <= unit, 'it counts no unit, or more than have come')
-        if self.screened_from is None:
-            self.screened_from = unit - value
-        screened = unit - self.screened_from
-        demand(value == screened, f'{counted(screened, "unit")} came since screened was 0')
-        demand(value >= (self.clearance or 0), 'S is no less than the clearance number, and this is')
+        counts = [unit - began for began in self.screened_from]
+        if counts and value not in counts:
+            came = ' or '.join(counted(count, 'unit') for count in counts)
+            raise Impossible(f'{came} came since screened was 0')
+        demand(value >= self.i[0], 'S is no less than the clearance number, and this is')
         demand(value > self.quiet_at, f'a defect at {self.quiet_at:,} units screened raised none')
-        self.long_at = min(self.long_at, value)
+        self.screened_from = (unit - value,)
+        self.long_at, self.i = min(self.long_at, value), (self.i[0], min(self.i[1], value))
 
     def defect(self, number, unit, value):
         demand(value in (0, 1), 'DEFECT has the value 0 or 1')
@@ -207,14 +258,14 @@ class History:
         self.at(unit, settles=True, handled=True)
         if value == SCREENING:
             self.defect_in_screening(unit)
-            screened = 0 if self.screened_from is None else unit - self.screened_from
+            screened = unit - max(self.screened_from) if self.screened_from else 0
             self.due = Due(LONG, unit, screened >= self.long_at, 'DEFECT')
         else:
             self.due = Due(PHASE, unit, self.type == CSP_T, 'DEFECT')
 
     def defect_in_screening(self, unit):
         """Run starts anew, and under CSP-V need is i again."""
-        self.phase, self.run_from, self.reduced = SCREENING, unit, False
+        self.phase, self.run_from, self.reduced = SCREENING, (unit,), False
         self.spent += 1
 
     def missed(self, number, unit, value):
@@ -253,13 +304,59 @@ class History:
             raise Impossible(f'the phase is {PHASES[self.phase]}')
         self.at(unit, settles=True, handled=False)
         demand(self.sequence is None or unit - self.sequence > self.spent, 'no screened unit is left to recall')
-        self.phase, self.run_from, self.screened_from = SCREENING, unit, unit
+        self.phase, self.run_from, self.screened_from = SCREENING, (unit,), (unit,)
         self.spent += 1
 
+    # ---- A change of plan
 
+    def plan(self, number, unit, value):
+        """A plan takes force: in sampling a higher frequency, at level 0; in screening any, since it may be on demand."""
+        demand(LEAST_N <= value <= MOST_N, f'PLAN has a value from {LEAST_N} to {MOST_N}')
+        demand(self.n != (value, value), f'{one_in(value)} is in force already')
+        if self.phase is not None and self.phase > SAMPLING:
+            raise Impossible(f'the phase is {PHASES[self.phase]}, and PHASE tells first that the level is 0')
+        if self.phase == SAMPLING and value >= self.n[1]:
+            raise Impossible(f'in sampling only a higher frequency takes force, and {self.lowest()}')
+        higher = self.phase == SAMPLING or value <= self.n[0]
+        with_phase = self.caused is not None and not higher  # it may be of the call that PHASE is of
+        owed = self.alone or (with_phase and self.caused.cause in (None, 'MISSED'))
+        self.at(unit, settles=not owed, handled=False)
+        self.change_clearance(higher, value >= self.n[1])
+        if self.phase == SAMPLING:
+            self.level_from = unit
+        elif self.phase == SCREENING:
+            self.change_in_screening(unit, higher, with_phase and self.caused.cause in (None, 'DEFECT'))
+        self.n = value, value
+        self.forget_alarm()
+
+    def lowest(self):
+        return f'{one_in(self.n[1])} is in force' if self.n[0] == self.n[1] else f'none is below {one_in(MOST_N)}'
+
+    def change_clearance(self, higher, lower):
+        """i rises where n does and falls where n does."""
+        least, most = self.i
+        demand(not higher or most > 1, 'the clearance number falls with n, and it is 1')
+        demand(not lower or least < MOST_CLEARANCE, f'the clearance number rises with n, and it is {MOST_CLEARANCE:,}')
+        self.i = least + 1 if lower else 1, most - 1 if higher else MOST_CLEARANCE
+
+    def change_in_screening(self, unit, higher, by_defect):
+        """A higher frequency is on demand; a lower one may be, or be at once, and under CSP-V need may be x at a revert."""
+        if higher:
+            self.screen(unit)
+            return
+        self.run_from, self.screened_from = also(self.run_from, unit), also(self.screened_from, unit)
+        self.reduced = self.reduced and by_defect
+
+
+def also(units, unit):
+    """One unit more that a count may begin after; what is not known stays so."""
+    return tuple(sorted({*units, unit})) if units else ()
+
+
+FOLLOWING = (PHASE, LONG, PLAN)
 RULES = {
     START: History.start, PHASE: History.phase_told, LONG: History.long_screening, DEFECT: History.defect,
-    MISSED: History.missed, SILENCE: History.silent, CHECK: History.check, INTERRUPT: History.interrupt,
+    MISSED: History.missed, SILENCE: History.silent, CHECK: History.check, INTERRUPT: History.interrupt, PLAN: History.plan,
 }
 
 

@@ -1,21 +1,29 @@
 """The journal that a file of answers tells: which event numbers it accounts for, and whether a station could write it."""
 
+from lib.frequency import Frequencies
 from lib.history import MOST_EVENTS, RULES, History, marker_fault
-from lib.words import GAP, REFUSALS, START, counted, few, span, spans
+from lib.words import GAP, PLAN, REFUSALS, START, counted, few, span, spans
 
 IMPOSSIBLE = 'no station could write this: '
 
 
 class Journal:
-    """What the entries so far have told."""
+    """What the entries so far have told. `asked`: the units after which a change of plan was taken, where that is known."""
 
-    def __init__(self):
+    def __init__(self, asked=None):
         self.last = 0          # the highest number told or named
         self.missing = []      # stretches that no entry names
         self.marked = []       # stretches that a marker names
         self.repeated = []     # stretches that came again, or late
         self.impossible = []   # the lines that no station could write
-        self.history = History()
+        self.plans = 0         # changes of plan that were told
+        self.asked = asked
+        self.history = History(asked)
+        self.frequencies = Frequencies(asked)
+
+    def opened_with(self, n):
+        """The n of the plan that was opened, which no entry tells."""
+        self.history.opened = self.frequencies.opened = n
 
     # ---- Hearing
 
@@ -33,19 +41,29 @@ class Journal:
         hole = self.hole_before(number)
         self.last = last
         if kind == GAP:
-            self.history.forget()
+            self.forget()
             join(self.marked, number, last)
             return hole
         return self.possible(line, kind, number, unit, value) or hole
 
     def possible(self, line, kind, number, unit, value):
         fault = self.history.hear(kind, number, unit, value)
-        return None if fault is None else self.cannot_be(line, fault)
+        if fault is None:
+            self.frequencies.told(kind, unit, value)
+            self.plans += kind == PLAN
+            return None
+        self.frequencies.lose()
+        return self.cannot_be(line, fault)
+
+    def forget(self):
+        """Events are not told here."""
+        self.history.forget()
+        self.frequencies.lose()
 
     def hole_before(self, number):
         if number == self.last + 1:
             return None
-        self.history.forget()
+        self.forget()
         join(self.missing, self.last + 1, number - 1)
         return f'missing before this: {span(self.last + 1, number - 1)}'
 

@@ -1,6 +1,6 @@
-"""The phases over the unit numbers, as stretches and as a strip of text."""
+"""What held over the unit numbers, as stretches and as a strip of text; the phases."""
 
-from lib.history import SCREENING
+from lib.history import SAMPLING, SCREENING
 from lib.words import CHECK, DEFECT, LONG, MISSED, PHASE, PHASES, span
 
 NOT_SEEN = 'missed'
@@ -11,35 +11,25 @@ WIDTH = 100
 MOST_ROWS = 24
 
 
-class Phases:
-    """The phase that each unit was handled in, as far as the entries told so far show it."""
+class Stretches:
+    """What held at each unit, as far as the entries told so far show it."""
 
     def __init__(self):
-        self.stretches = []  # the first unit, the last, the phase or None
+        self.stretches = []  # the first unit, the last, what held or None
         self.covered = 0
 
-    def through(self, unit, phase):
-        """The units up to this one were handled in this phase."""
+    def through(self, unit, held):
+        """This held at the units up to this one."""
         if unit > self.covered:
-            self.stretches.append((self.covered + 1, unit, phase))
+            self.stretches.append((self.covered + 1, unit, held))
             self.covered = unit
 
-    def told(self, before, kind, unit, value):
-        """An entry tells that the phase before it held up to its unit. After a marker it may tell that unit's own."""
-        if kind == MISSED:
-            self.through(unit - 1, before)
-            self.through(unit + value - 1, SCREENING)
-        elif before is None:
-            self.through(unit - 1, None)
-            self.through(unit, own_phase(kind, value))
-        else:
-            self.through(unit, before)
-
     def labelled(self, last, missed):
-        """Each stretch of units up to the last, with what it was; units that never came are missed in any phase."""
+        """Each stretch of units up to the last, with what it was; units that never came are missed whatever held."""
         self.through(last, None)
-        marks = sorted({1, *(edge for first, end, *_ in (*self.stretches, *missed) for edge in (first, end + 1))})
-        labels = Labels([(first, end, NOT_TOLD if phase is None else PHASES[phase]) for first, end, phase in self.stretches])
+        edges = {edge for first, end, *_ in (*self.stretches, *missed) for edge in (first, end + 1)}
+        marks = sorted({1, *(min(edge, last + 1) for edge in edges)})
+        labels = Labels([(first, end, self.name(held)) for first, end, held in self.stretches])
         unseen = Labels([(first, end, NOT_SEEN) for first, end in missed])
         parts = []
         for first, after in zip(marks, marks[1:]):
@@ -50,10 +40,31 @@ class Phases:
         return parts
 
 
-def own_phase(kind, value):
-    """The phase of an entry's own unit, where the entry alone tells it: a change to sampling comes from the step before."""
+class Phases(Stretches):
+    """The phase that each unit was handled in."""
+
+    def name(self, phase):
+        return NOT_TOLD if phase is None else PHASES[phase]
+
+    def told(self, before, kind, unit, value, may_drop):
+        """An entry tells that the phase before it held up to its unit. After a marker it may tell that unit's own."""
+        if kind == MISSED:
+            self.through(unit - 1, before)
+            self.through(unit + value - 1, SCREENING)
+        elif before is None:
+            self.through(unit - 1, None)
+            self.through(unit, own_phase(kind, value, may_drop))
+        else:
+            self.through(unit, before)
+
+
+def own_phase(kind, value, may_drop):
+    """The phase of an entry's own unit, where the entry alone tells it: a change to sampling comes from the step before.
+
+    `may_drop`: a change of plan may have led to level 0 from a higher one.
+    """
     if kind == PHASE and value > SCREENING:
-        return value - 1
+        return None if value == SAMPLING and may_drop else value - 1
     return SCREENING if kind in (CHECK, LONG) or (kind == DEFECT and value == SCREENING) else None
 
 
@@ -80,24 +91,28 @@ def rows(parts):
     return [f'{units:<{width}}  {label}' for units, label in shown] + ([f'and {more:,} more stretches'] if more > 0 else [])
 
 
-def strip(parts):
+def strip(parts, signs=SIGNS):
     """One sign for each few units, which shows what most of them were; a missed stretch of any length counts as one.
 
     Answers the signs, and how many units each stands for. A jump over many units would else leave nothing to be seen.
     """
     sizes = [1 if label == NOT_SEEN else last - first + 1 for first, last, label in parts]
     each = -(-sum(sizes) // WIDTH)
-    signs, counts, room = '', {}, each
+    drawn, counts, room = '', {}, each
     for size, (_, _, label) in zip(sizes, parts):
         while size:
             taken = min(size, room)
             counts[label] = counts.get(label, 0) + taken
             size, room = size - taken, room - taken
             if not room:
-                signs, counts, room = signs + most(counts), {}, each
-    return signs + (most(counts) if counts else ''), each
+                drawn, counts, room = drawn + signs[most(counts)], {}, each
+    return drawn + (signs[most(counts)] if counts else ''), each
+
+
+def scale(each):
+    return 'one sign a unit' if each == 1 else f'one sign for {each:,} units'
 
 
 def most(counts):
-    """The sign of what most units were; of equals, of the earliest."""
-    return SIGNS[max(counts, key=counts.get)]
+    """What most units were; of equals, the earliest."""
+    return max(counts, key=counts.get)

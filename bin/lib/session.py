@@ -7,10 +7,11 @@ where a marker stands for them, or no take has told them yet, the phase is not t
 from collections import Counter, deque
 
 from lib import calls, words
-from lib.calls import FIND, INTERRUPTED, NO_FRAME, OPEN, RESULT, TABLE, TAKE, TICK, UNIT
+from lib.calls import CHANGE, FIND, INTERRUPTED, NO_FRAME, OPEN, RESULT, TABLE, TAKE, TICK, TYPES, UNIT
+from lib.history import SCREENING
 from lib.journal import Journal, plain_fault
 from lib.phases import Phases
-from lib.words import CHECK, DEFECT, GAP, INTERRUPT, KINDS, LONG, MISSED, PHASE, SILENCE, START, counted
+from lib.words import CHECK, DEFECT, GAP, INTERRUPT, KINDS, LONG, MISSED, PHASE, PLAN, SILENCE, START, counted, one_in
 
 CALL = 22
 NUMBERS_END = 10  # a refusal that no call asks for: it comes when the event numbers run out
@@ -42,8 +43,76 @@ class Tally:
         return sum(last - first + 1 for first, last in self.missed)
 
 
+SAME, AT_ONCE, WAITS, OPEN_END = 'same', 'at once', 'waits', 'open'  # what a change does, as far as it is known
+HIGHER = {
+    AT_ONCE: ': higher, at once', WAITS: ': higher, waits for the shift to sampling',
+    OPEN_END: ': higher, at once in sampling, else at the shift to it',
+}
+LOWER = {
+    AT_ONCE: ': lower, at once', WAITS: ': lower, waits for the return to screening',
+    OPEN_END: ': lower, at once in screening, else at the return to it',
+}
+
+
+class Plans:
+    """The plans that may be in force, now or once a waiting one is taken up, as the accepted calls tell them."""
+
+    def __init__(self):
+        self.type = None
+        self.may = set()  # n and i of each; i is None where a table has it
+
+    def opened(self, code, said):
+        self.type = TYPES.get(said[0])
+        self.may = {(calls.frequency(code, said), said[2] if code == OPEN else None)}
+
+    def now(self, force):
+        """Those that may be in force at this call; `force` is its n, where it is known."""
+        return {plan for plan in self.may if plan[0] == force} or self.may
+
+    def refusal(self, force, type, n, i, S, x, N):
+        """The refusal that a change asks for, 0 where it asks for none, and None where the calls do not tell."""
+        if TYPES.get(type) != self.type or self.type == 'CSP-F':
+            return 11
+        against = {refused_against(n, i, *plan) for plan in self.now(force)}
+        if against == {False}:
+            return 0 if calls.in_range(type, n, i, S, x, N) else 3
+        return 11 if against == {True} else None
+
+    def change(self, force, phase, n, i, demanded):
+        """An accepted change: what it does, and that in words, as far as it is known."""
+        now = self.now(force)
+        known = {n for n, _ in now}
+        if known == {n}:
+            return SAME, ': the same frequency, nothing changes'
+        if n in known or None in known:
+            self.may.add((n, i))
+            return OPEN_END, ''
+        if demanded:
+            self.may = {(n, i)}
+            return AT_ONCE, ': at once, by a fresh screening sequence'
+        self.may = now | {(n, i)}
+        return taken_up(n < min(known), n > max(known), phase)
+
+
+def taken_up(higher, lower, phase):
+    """A higher frequency is taken up in sampling, a lower one in screening."""
+    if not higher and not lower:
+        return OPEN_END, ''
+    when = OPEN_END if phase is None else AT_ONCE if higher == (phase != SCREENING) else WAITS
+    return when, (HIGHER if higher else LOWER)[when]
+
+
+def refused_against(n, i, n_in_force, i_in_force):
+    """Whether a change is refused 11 where this plan is in force; None where that is not known."""
+    if n == n_in_force:
+        return False
+    if None in (n_in_force, i_in_force):
+        return None
+    return i <= i_in_force if n > n_in_force else i >= i_in_force
+
+
 class Raised:
-    """The events that the accepted calls raise for certain: all but PHASE and LONG follow from the calls alone."""
+    """The events that the accepted calls raise for certain: PHASE, LONG and most PLAN do not follow from the calls alone."""
 
     def __init__(self):
         self.least = 0         # so many events were raised, or more
@@ -52,6 +121,7 @@ class Raised:
         self.silent = 0
         self.untold = deque()  # those that were not told yet
         self.followed = True   # no marker and no fault stands between, so the next one to be told is known
+        self.asked = []        # n of each accepted change that a PLAN may still tell, and the last unit at the call
 
     def surely(self, kind, unit, value=None):
         """An event; its value is None where the calls do not tell it."""
@@ -71,13 +141,27 @@ class Raised:
 
     def told(self, kind, unit, value):
         """Why the calls do not raise an event that is told next, or None."""
+        if kind == PLAN and not self.asked_for(unit, value):
+            return f'no change that was taken asks for {one_in(value)} here'
         if kind in (PHASE, LONG) or not self.followed:
             return None
+        if kind == PLAN and not self.surely_next(value):
+            return None  # one that waited, or was raised in a phase that the calls do not tell
         due = self.untold.popleft() if self.untold else None
         if due and due[:2] == (kind, unit) and due[2] in (None, value):
             return None
         self.lose()
         return f'the calls raise {KINDS[due[0]]} with unit {due[1]:,} here' if due else 'no call has raised it'
+
+    def surely_next(self, n):
+        return bool(self.untold) and self.untold[0][::2] == (PLAN, n)
+
+    def asked_for(self, unit, n):
+        """Whether a change asks for this plan; those before it are replaced by then."""
+        at = next((at for at, (asked, last) in enumerate(self.asked) if asked == n and last <= unit), None)
+        if at is not None:
+            del self.asked[:at + 1]
+        return at is not None
 
     def lose(self):
         """What is told next is not known any more, until a take comes back empty."""
@@ -95,11 +179,12 @@ class Raised:
 
 class Session:
     def __init__(self):
-        self.journal = Journal()
+        self.journal = Journal(asked=set())
         self.tally = Tally()
         self.raised = Raised()
         self.phases = Phases()
         self.plan = None
+        self.plans = Plans()
         self.limit = 0
         self.calls = Counter()
         self.refusals = Counter()
@@ -136,6 +221,9 @@ class Session:
         left = self.raised.left(self.journal.last)
         if code == TAKE and left and not any(answer):
             return f'{counted(left, "event")} or more are untold'
+        follows = self.journal.history.due
+        if code == TAKE and follows and follows.certain and not any(answer):
+            return f'the {follows.cause} that was told calls for {KINDS[follows.kind]} next'
         return None
 
     def due(self, code, said):
@@ -148,8 +236,10 @@ class Session:
             return 2
         if code == RESULT:
             return 9 if said[0] > 1 else 0 if self.tally.owed else 5
-        if self.tally.owed and code in (UNIT, INTERRUPTED, FIND):
+        if self.tally.owed and code in (UNIT, INTERRUPTED, FIND, CHANGE):
             return 4
+        if code == CHANGE:
+            return self.plans.refusal(self.in_force()[0], *said[:-1])
         if code == UNIT:
             return 6 if said[0] <= self.tally.last else 7 if said[0] > self.limit else 0
         return None if code == FIND else 0
@@ -167,7 +257,7 @@ class Session:
             self.gap(number, number + value - 1)
         elif fault is None:
             self.event(kind, number, unit)
-            self.phases.told(before, kind, min(unit, self.tally.last), value)
+            self.phases.told(before, kind, min(unit, self.tally.last), value, self.may_drop())
             fault = self.not_raised(at, kind, unit, value)
         self.raised.least = max(self.raised.least, self.journal.last)
         return self.row(at, f'{"take":<{CALL}}  {words.entry(kind, number, unit, value)}', fault)
@@ -178,6 +268,10 @@ class Session:
         if unit > self.tally.last:
             why = 'no such unit has come'
         return self.journal.cannot_be(at, why) if why else None
+
+    def may_drop(self):
+        """Whether a level may have been left for level 0: by a change of plan under CSP-T."""
+        return bool(self.journal.asked) and self.plans.type == 'CSP-T'
 
     def event(self, kind, number, unit):
         self.events[kind] += 1
@@ -195,7 +289,9 @@ class Session:
     # ---- Accepted calls that tell no entry: what each does here, and its words
 
     def opened(self, code, said, value):
-        self.plan = (code, calls.plan(*said) if code == OPEN else calls.table_entry(*said))
+        self.plan = (code, calls.seeded(*said) if code == OPEN else calls.table_entry(*said))
+        self.plans.opened(code, said)
+        self.journal.opened_with(calls.frequency(code, said))
         self.limit = calls.unit_limit(code, said)
         self.raised.surely(START, 0, said[2] if code == OPEN else None)
         return calls.asked(code, said)
@@ -229,15 +325,33 @@ class Session:
         self.raised.tick(self.tally.last)
         return calls.asked(code, said)
 
+    def changed(self, code, said, value):
+        _, n, i, *_, demanded = said
+        does, in_words = self.plans.change(*self.in_force(), n, i, demanded)
+        if does != SAME:
+            self.journal.asked.add(self.tally.last)
+            self.raised.asked.append((n, self.tally.last))
+        if does == AT_ONCE:
+            self.raised.surely(PLAN, self.tally.last, n)
+        elif does == OPEN_END:
+            self.raised.perhaps()
+        return calls.asked(code, said) + in_words
+
     def nothing(self, code, said, value):
         self.empty += 1
         self.raised.emptied(self.journal.last)
         self.all_told()
         return 'take: nothing to tell'
 
+    def in_force(self):
+        """The n and the phase in force, where every event has been told and tells them; None where not."""
+        force, phase = self.journal.frequencies.force, self.journal.history.phase
+        return (force, phase) if self.empty and not self.raised.more else (None, None)
+
     def all_told(self):
-        """Every event has been told, so the phase in force is that of the units so far."""
+        """Every event has been told, so the phase and the frequency in force are those of the units so far."""
         self.phases.through(self.tally.last, self.journal.history.phase)
+        self.journal.frequencies.through(self.tally.last, self.journal.frequencies.force)
 
     def stretches(self):
         """The units up to the last, as stretches of one phase each."""
@@ -245,8 +359,14 @@ class Session:
             self.all_told()
         return self.phases.labelled(self.tally.last, self.tally.missed)
 
+    def frequencies(self):
+        """The frequencies in force over the units up to the last, to be looked at."""
+        if self.empty and not self.raised.more:
+            self.all_told()
+        return self.journal.frequencies.lines(self.tally.last, self.tally.missed)
+
 
 HEARD = {
     OPEN: Session.opened, TABLE: Session.opened, UNIT: Session.unit, RESULT: Session.result, TICK: Session.ticked,
-    INTERRUPTED: Session.interrupted, FIND: Session.found, TAKE: Session.nothing,
+    INTERRUPTED: Session.interrupted, FIND: Session.found, TAKE: Session.nothing, CHANGE: Session.changed,
 }

@@ -1,15 +1,15 @@
-"""A session in a few lines: its plan, units, events and phases, what was dropped, and one line of verdict."""
+"""A session in a few lines: plan, units, events, phases, what was dropped, frequencies, and one line of verdict."""
 
 import textwrap
 
 from lib import phases
-from lib.calls import FIND, INTERRUPTED, NAMES, NO_FRAME, OPEN, RESULT, TABLE, TAKE, TICK, UNIT
+from lib.calls import CHANGE, FIND, INTERRUPTED, NAMES, NO_FRAME, OPEN, RESULT, TABLE, TAKE, TICK, UNIT
 from lib.words import KINDS, counted, span, spans
 
 LABEL = 11
 WIDTH = 100
 FEW_GAPS = 2
-ORDER = (OPEN, TABLE, UNIT, RESULT, INTERRUPTED, FIND, TICK, TAKE, NO_FRAME)
+ORDER = (OPEN, TABLE, UNIT, RESULT, INTERRUPTED, FIND, TICK, CHANGE, TAKE, NO_FRAME)
 
 
 def lines(session):
@@ -19,6 +19,7 @@ def lines(session):
         parts += [('units', [units(session.tally)]), ('events', [events(session)])]
         parts += [('dropped', dropped(session))] if session.gaps else []
         parts += [('phases', phase_lines(session))] if session.tally.last else []
+        parts += [('frequency', session.frequencies())] if session.tally.last and session.journal.asked else []
     told = ['Summary']
     for label, texts in parts:
         told += [f'  {label if at == 0 else "":<{LABEL}}{text}' for at, text in enumerate(texts)]
@@ -83,8 +84,7 @@ def phase_lines(session):
     """The stretches in words, and the same as a strip to look at."""
     parts = session.stretches()
     signs, each = phases.strip(parts)
-    scale = 'one sign a unit' if each == 1 else f'one sign for {each:,} units'
-    return [*phases.rows(parts), f'[{signs}]', f'{scale}: {phases.KEY}']
+    return [*phases.rows(parts), f'[{signs}]', f'{phases.scale(each)}: {phases.KEY}']
 
 
 # ---- The verdict

@@ -1,6 +1,6 @@
 """Words for numbers, answers and events. bin/journal and bin/session both speak them, so they stand here once.
 
-Document 01 gives each number its meaning: a refusal, a kind of event, a value.
+Documents 01 and 02 give each number its meaning: a refusal, a kind of event, a value.
 """
 
 import re
@@ -9,7 +9,8 @@ from struct import Struct
 NUMBERS = Struct('>BBIII')
 LINE = re.compile(rb'[0-9A-F]{2} [0-9A-F]{2} [0-9A-F]{8} [0-9A-F]{8} [0-9A-F]{8}\n')
 ANSWERS = re.compile(rb'(?:[0-9A-F]{2} [0-9A-F]{2}(?: [0-9A-F]{8}){3}\n)+[0-9A-F ]{0,32}')  # the last may be torn
-START, PHASE, LONG, DEFECT, MISSED, SILENCE, CHECK, INTERRUPT, GAP = range(1, 10)
+START, PHASE, LONG, DEFECT, MISSED, SILENCE, CHECK, INTERRUPT, GAP, PLAN = range(1, 11)
+LEAST_N, MOST_N = 2, 200  # a plan's frequency is one in n
 
 ILL_FORMED = 'an ill-formed frame'
 NO_RESULT = 'a result neither 0 nor 1'
@@ -17,6 +18,7 @@ SECOND_OPEN = 'a second open'
 NOT_OPEN = 'no station is open'
 NO_PLAN = 'a plan number is out of range'
 NO_ENTRY = 'the table has no such entry'
+NO_CHANGE = 'another type, CSP-F, or i does not go with n'
 REFUSALS = {
     1: 'the queue memory is not the station\'s',
     2: f'no sound record, or {NOT_OPEN}',
@@ -27,11 +29,12 @@ REFUSALS = {
     7: 'the unit number is above the limit',
     8: 'not in screening, or nothing is left to recall',
     9: f'{ILL_FORMED}, {NO_RESULT}, or {SECOND_OPEN}',
-    10: 'fewer than two event numbers are left',
+    10: 'fewer than three event numbers are left',
+    11: f'no such change: {NO_CHANGE}',
 }
 KINDS = {
     START: 'START', PHASE: 'PHASE', LONG: 'LONG', DEFECT: 'DEFECT', MISSED: 'MISSED', SILENCE: 'SILENCE',
-    CHECK: 'CHECK', INTERRUPT: 'INTERRUPT', GAP: 'GAP',
+    CHECK: 'CHECK', INTERRUPT: 'INTERRUPT', GAP: 'GAP', PLAN: 'PLAN',
 }
 PHASES = ('screening', 'sampling level 0', 'sampling level 1', 'sampling level 2')
 PLACES = ('in screening', 'in sampling')
@@ -63,6 +66,11 @@ def spans(ranges):
     return few([span(first, last) for first, last in ranges])
 
 
+def one_in(n):
+    """A frequency."""
+    return f'one in {n:,}'
+
+
 # ---- Words for an entry of the journal
 
 def named(names, value):
@@ -71,6 +79,10 @@ def named(names, value):
 
 def without_value(words, value):
     return words if value == 0 else f'value {value:,}'
+
+
+def new_plan(n):
+    return f'a new plan takes force: {one_in(n)}' if LEAST_N <= n <= MOST_N else f'value {n:,}'
 
 
 SAYING = {
@@ -82,6 +94,7 @@ SAYING = {
     SILENCE: lambda unit, value: f'{counted(value, "tick")} in a row with no unit',
     CHECK: lambda unit, value: without_value('a defect found in a screened unit', value),
     INTERRUPT: lambda unit, value: without_value('screening starts anew', value),
+    PLAN: lambda unit, value: new_plan(value),
 }
 
 
