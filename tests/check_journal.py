@@ -7,11 +7,12 @@ import sys
 import model
 from check_stored import FOLDER
 from drive import Driver
-from model import CHECK, DEFECT, INTERRUPT, LONG, MARKER, MISSED, PHASE, SILENCE, START, written
+from model import CHECK, DEFECT, INTERRUPT, LONG, MARKER, MISSED, PHASE, PLAN, SILENCE, START, written
 from programs import ROOT
 
 sys.path.insert(0, str(ROOT / 'bin'))
 
+from lib.frequency import OPENED
 from lib.journal import Journal
 from lib.words import answer as read_answer
 
@@ -47,14 +48,56 @@ EVERY_KIND = '''\
        10  MISSED            16      1,251  3 units not seen: 1,251 to 1,253
        11  SILENCE           17      1,254  1 tick in a row with no unit
        12  CHECK             18      1,254  a defect found in a screened unit
-       14  INTERRUPT         19      1,254  screening starts anew
-Events 1 to 19: all accounted for; only named by a marker: 2 to 9; this file cannot tell what came after 19.
+       15  INTERRUPT         19      1,254  screening starts anew
+       16  PLAN              20      1,254  a new plan takes force: one in 7
+Frequency in force
+  1 to 1,254  not told
+  from unit 1,255 on: one in 7, unless an event after 20 says otherwise
+Events 1 to 20: all accounted for; only named by a marker: 2 to 9; this file cannot tell what came after 20.
 '''
 KINDS = [
     (0, 1, 1, 0, 14), (0, 9, 2, 0, 1), (0, 9, 3, 0, 7), (0, 2, 10, 1_234, 3), (0, 4, 11, 1_235, 1), (0, 2, 12, 1_235, 0),
     (0, 4, 13, 1_236, 0), (0, 4, 14, 1_250, 0), (0, 3, 15, 1_250, 15), (0, 5, 16, 1_251, 3), (0, 6, 17, 1_254, 1),
-    (0, 7, 18, 1_254, 0), (10, 0, 0, 0, 0), (0, 8, 19, 1_254, 0),
+    (0, 7, 18, 1_254, 0), (10, 0, 0, 0, 0), (11, 0, 0, 0, 0), (0, 8, 19, 1_254, 0), (0, 10, 20, 1_254, 7),
 ]
+REFUSED = '''\
+     line  event         number       unit  what it says
+        1  refused                          10: fewer than three event numbers are left
+        2  refused                          11: no such change: another type, CSP-F, or i does not go with n
+No event is told; this file cannot tell what was raised.
+'''
+# Plans that change: at once and on demand in screening, at once in sampling, at a jump, behind a marker.
+FREQUENCIES = '''\
+     line  event         number       unit  what it says
+        1  START              1             clearance number 3
+        2  PLAN               2          2  a new plan takes force: one in 5
+        3  PHASE              3          8  sampling level 0
+        4  PLAN               4         40  a new plan takes force: one in 4
+        5  MISSED             5         91  400 units not seen: 91 to 490
+        6  PHASE              6        491  screening
+        7  PLAN               7        491  a new plan takes force: one in 9
+        8  SILENCE            8        500  1 tick in a row with no unit
+        9  GAP                9             2 events dropped: 9 to 10
+       10  SILENCE           11        560  1 tick in a row with no unit
+       11  PLAN              12        600  a new plan takes force: one in 4
+       12  SILENCE           13        700  1 tick in a row with no unit
+Frequency in force
+  1 to 2      one in 3
+  3 to 40     one in 5
+  41 to 490   one in 4
+  491         one in 4 or one in 9
+  492 to 500  one in 9
+  501 to 600  not told
+  601 to 700  one in 4
+  from unit 701 on: one in 4, unless an event after 13 says otherwise
+  [abbbbbbbbbcccccccccccccdd?????????????????????????cccccccccccccccccccccccccc]
+  one sign for 4 units: a one in 3, b one in 5, c one in 4, ? not told, d one in 9
+Events 1 to 13: all accounted for; only named by a marker: 9 to 10; this file cannot tell what came after 13.
+'''
+CHANGING = (
+    (START, 0, 3), (PLAN, 2, 5), (PHASE, 8, 1), (PLAN, 40, 4), (MISSED, 91, 400), (PHASE, 491, 0), (PLAN, 491, 9),
+    (SILENCE, 500, 1), (MARKER, 0, 2), (SILENCE, 560, 1), (PLAN, 600, 4), (SILENCE, 700, 1),
+)
 DAMAGED = [
     b'\n', b'00 00 00000000 00000000 0000000\n', b'00 00 00000000 00000000 000000000\n', b'00 00 00000000  00000000 00000000\n',
     b'00 00 0000000a 00000000 00000000\n', b'00 00 00000000 00000000 00000000\r\n', b' 00 00 00000000 00000000 00000000\n',
@@ -62,17 +105,19 @@ DAMAGED = [
 ]
 # Answer lines that no program writes, whatever came before.
 OUT_OF_PLACE = [
-    (0, 10, 2, 0, 0), (0, 2, 2, 1, 4), (0, 4, 2, 1, 2), (0, 1, 0, 0, 1), (0, 6, 8_000_001, 0, 1), (0, 9, 2, 1, 1),
+    (0, 11, 2, 0, 0), (0, 2, 2, 1, 4), (0, 4, 2, 1, 2), (0, 1, 0, 0, 1), (0, 6, 8_000_001, 0, 1), (0, 9, 2, 1, 1),
     (0, 9, 2, 0, 0), (0, 9, 2, 0, 2 ** 32 - 1), (0, 9, 2, 0, 7_999_992), (0, 5, 2, 1, 0), (0, 5, 2, 1_000_000, 1),
     (0, 5, 2, 0, 1), (0, 6, 2, 0, 0), (0, 7, 2, 0, 0), (0, 7, 2, 1, 1), (0, 8, 2, 0, 1), (0, 2, 2, 0, 1), (0, 4, 2, 0, 0),
-    (0, 6, 2, 1_000_001, 1), (0, 1, 2, 0, 2), (11, 0, 0, 0, 0), (4, 0, 0, 0, 1), (4, 1, 1, 0, 1), (0, 0, 1, 0, 0),
-    (0, 0, 0, 0, 2),
+    (0, 6, 2, 1_000_001, 1), (0, 1, 2, 0, 2), (12, 0, 0, 0, 0), (4, 0, 0, 0, 1), (4, 1, 1, 0, 1), (0, 0, 1, 0, 0),
+    (0, 0, 0, 0, 2), (0, 10, 2, 1, 0), (0, 10, 2, 1, 1), (0, 10, 2, 1, 201),
 ]
 # The entries (kind, unit, value) from event 1 on; the last two are one that a station can write there, and one that
 # none can, with a part of what is said of it.
 OPEN = (START, 0, 5)
 SAMPLING = (OPEN, (PHASE, 5, 1))
+LEFT = (*SAMPLING, (PHASE, 14, 2))
 HIDDEN = ((MARKER, 0, 8),)
+SPENT = ((MARKER, 0, 7_999_992), *((SILENCE, 1, count) for count in range(1, 6)), (INTERRUPT, 1, 0))  # the next is 7,999,999
 HISTORIES = {
     'a first event that is not START': ((), OPEN, (SILENCE, 0, 1), 'event 1 is START'),
     'START with a unit': ((), OPEN, (START, 1, 5), 'unit 0'),
@@ -95,12 +140,18 @@ HISTORIES = {
     'sampling out of sampling': (SAMPLING, (PHASE, 14, 2), (PHASE, 90, 1), 'already'),
     'a level too soon': (SAMPLING, (PHASE, 14, 2), (PHASE, 13, 2), '5 good samples'),
     'a second level too soon': ((*SAMPLING, (PHASE, 14, 2)), (PHASE, 31, 3), (PHASE, 30, 3), '5 good samples'),
-    'screening with no cause': (SAMPLING, (SILENCE, 9, 1), (PHASE, 9, 0), 'no cause'),
-    'screening after another unit': ((*SAMPLING, (DEFECT, 9, 1)), (PHASE, 9, 0), (PHASE, 10, 0), 'calls for unit 9'),
+    'screening with no cause and no PLAN':
+        ((*SAMPLING, (PHASE, 9, 0)), (PLAN, 9, 4), (SILENCE, 9, 1), 'no cause just before it calls for PLAN'),
+    'screening after another unit':
+        ((*SAMPLING, (PHASE, 14, 2), (DEFECT, 20, 1)), (PHASE, 20, 0), (PHASE, 21, 0), 'calls for unit 20'),
+    'screening after another unit and no PLAN':
+        ((*SAMPLING, (DEFECT, 9, 1), (PHASE, 10, 0)), (PLAN, 10, 4), (SILENCE, 10, 1), 'calls for PLAN'),
     'screening after a jump': ((*SAMPLING, (MISSED, 7, 2)), (PHASE, 9, 0), (PHASE, 8, 0), 'calls for unit 9'),
-    'screening out of screening': ((OPEN, (INTERRUPT, 3, 0)), (SILENCE, 3, 1), (PHASE, 3, 0), 'no cause'),
+    'screening out of screening':
+        ((OPEN, (INTERRUPT, 3, 0)), (SILENCE, 3, 1), (PHASE, 3, 0), 'the phase is screening already'),
     'a jump in sampling with no PHASE': ((*SAMPLING, (MISSED, 7, 2)), (PHASE, 9, 0), (SILENCE, 9, 1), 'calls for PHASE'),
-    'an interrupt in sampling with no PHASE': ((*SAMPLING, (INTERRUPT, 7, 0)), (PHASE, 7, 0), (SILENCE, 7, 1), 'calls for PHASE'),
+    'an interrupt in sampling with no PHASE':
+        ((*SAMPLING, (INTERRUPT, 7, 0)), (PHASE, 7, 0), (SILENCE, 7, 1), 'calls for PHASE'),
     'a defect at a level with no PHASE':
         ((*SAMPLING, (PHASE, 14, 2), (DEFECT, 20, 1)), (PHASE, 20, 0), (SILENCE, 20, 1), 'calls for PHASE'),
     'a level after a watch': ((*SAMPLING, (DEFECT, 9, 1)), (SILENCE, 40, 1), (PHASE, 40, 2), 'CSP-2'),
@@ -127,31 +178,143 @@ HISTORIES = {
     'a phase with no unit': (HIDDEN, (PHASE, 1, 0), (PHASE, 0, 0), 'before a unit has come'),
     'a check find with no unit': (HIDDEN, (CHECK, 1, 0), (CHECK, 0, 0), 'no unit was screened'),
     'a defect that is neither screened nor sampled': (HIDDEN, (DEFECT, 5, 1), (DEFECT, 5, 2), '0 or 1'),
-    'a sample after PHASE to screening': ((*HIDDEN, (PHASE, 9, 0)), (DEFECT, 10, 0), (DEFECT, 10, 1), 'the phase is screening'),
+    'a sample after PHASE to screening':
+        ((*HIDDEN, (PHASE, 9, 0)), (DEFECT, 10, 0), (DEFECT, 10, 1), 'the phase is screening'),
     'LONG with more units than have come': (HIDDEN, (LONG, 5, 5), (LONG, 5, 6), 'more than have come'),
     'more ticks than events': (HIDDEN, (SILENCE, 3, 8), (SILENCE, 3, 9), 'fits its number'),
     'a silence over a unit': ((OPEN, (SILENCE, 3, 1)), (SILENCE, 4, 1), (SILENCE, 4, 2), 'is 1 here'),
+    'two PLANs alike': ((OPEN, (PLAN, 2, 4)), (PLAN, 2, 5), (PLAN, 2, 4), 'one in 4 is in force already'),
+    'two PLANs alike in sampling': ((*SAMPLING, (PLAN, 9, 4)), (PLAN, 9, 3), (PLAN, 9, 4), 'one in 4 is in force already'),
+    'a frequency above all': ((OPEN,), (PLAN, 2, 2), (PLAN, 2, 1), '2 to 200'),
+    'a frequency below all': ((OPEN,), (PLAN, 2, 200), (PLAN, 2, 201), '2 to 200'),
+    'the lowest frequency in sampling': (SAMPLING, (PLAN, 9, 199), (PLAN, 9, 200), 'none is below one in 200'),
+    'a lower frequency in sampling than the last':
+        ((*SAMPLING, (PLAN, 9, 4)), (PLAN, 12, 3), (PLAN, 12, 5), 'only a higher frequency'),
+    'PLAN at a level with no PHASE': ((*SAMPLING, (PHASE, 14, 2)), (PHASE, 20, 1), (PLAN, 20, 2), 'PHASE tells first'),
+    'level 0 again and no PLAN':
+        ((*LEFT, (PHASE, 20, 1)), (PLAN, 20, 2), (SILENCE, 20, 1), 'PHASE to level 0 just before it calls for PLAN'),
+    'level 0 again and PLAN of another unit': ((*LEFT, (PHASE, 20, 1)), (PLAN, 20, 2), (PLAN, 21, 2), 'calls for unit 20'),
+    'screening on demand and PLAN of another unit':
+        ((*SAMPLING, (PHASE, 9, 0)), (PLAN, 9, 2), (PLAN, 10, 2), 'calls for unit 9'),
+    'PLAN before the PHASE of an interrupt':
+        ((*SAMPLING, (INTERRUPT, 9, 0)), (PHASE, 9, 0), (PLAN, 9, 4), 'calls for PHASE'),
+    'PLAN before the PHASE of a jump': ((*SAMPLING, (MISSED, 7, 2)), (PHASE, 9, 0), (PLAN, 9, 4), 'calls for PHASE'),
+    'PLAN before the PHASE of a revert': ((*LEFT, (DEFECT, 20, 1)), (PHASE, 20, 0), (PLAN, 20, 4), 'calls for PHASE'),
+    'PLAN before the PHASE of a shift': ((OPEN,), (PHASE, 5, 1), (PLAN, 5, 4), 'unit 5 at the latest'),
+    'PLAN before the LONG of a defect':
+        ((OPEN, (DEFECT, 5, 0), (LONG, 5, 5), (DEFECT, 6, 0)), (LONG, 6, 6), (PLAN, 6, 4), 'calls for LONG'),
+    'LONG behind PLAN': ((OPEN, (DEFECT, 5, 0), (PLAN, 5, 4)), (SILENCE, 5, 1), (LONG, 5, 5), 'no cause'),
+    'a result that came before PLAN': ((OPEN, (PLAN, 3, 4)), (DEFECT, 4, 0), (DEFECT, 3, 0), 'given before'),
+    'PLAN of a unit that is past': ((OPEN, (SILENCE, 4, 1)), (PLAN, 4, 4), (PLAN, 3, 4), 'backwards'),
+    'LONG with a count of neither sequence':
+        ((OPEN, (PLAN, 2, 4), (DEFECT, 12, 0)), (LONG, 12, 10), (LONG, 12, 11), '12 units or 10 units came'),
+    'LONG with a count that LONG has ruled out':
+        ((OPEN, (PLAN, 2, 4), (DEFECT, 12, 0), (LONG, 12, 12), (DEFECT, 14, 0)), (LONG, 14, 14), (LONG, 14, 12), '14 units came'),
+    'a higher level too soon under the plan told':
+        ((*SAMPLING, (PLAN, 9, 4), (PHASE, 13, 2)), (PHASE, 14, 3), (PHASE, 13, 3), 'given before'),
+    'PLAN with the number after the last':
+        (SPENT, (PLAN, 1, 4), (SILENCE, 1, 6), 'no SILENCE has a number above 7,999,998'),
+    'PHASE with the last number':
+        ((*SPENT, (PHASE, 1, 0)), (PLAN, 1, 4), (PHASE, 1, 0), 'no PHASE has a number above 7,999,999'),
+}
+# The same where the n that was opened is known, which is 3.
+OPENED_WITH = 3
+KNOWN = {
+    'a plan as it was opened': ((OPEN,), (PLAN, 2, 4), (PLAN, 2, 3), 'one in 3 is in force already'),
+    'a lower frequency in sampling':
+        (SAMPLING, (PLAN, 9, 2), (PLAN, 9, 4), 'only a higher frequency takes force, and one in 3 is in force'),
+    'a lower frequency at the shift to sampling': (SAMPLING, (PLAN, 5, 2), (PLAN, 5, 4), 'only a higher frequency'),
+    'a lower frequency out of a level':
+        ((*SAMPLING, (PHASE, 18, 2), (PHASE, 30, 1)), (PLAN, 30, 2), (PLAN, 30, 4), 'only a higher frequency'),
+    'a higher frequency at a jump with no result':
+        (((START, 0, 1), (PHASE, 1, 1), (MISSED, 5, 2), (PHASE, 7, 0)), (PLAN, 7, 4), (PLAN, 7, 2), 'unit 7 at the latest'),
+    'sampling before the new clearance number':
+        ((OPEN, (PLAN, 2, 4)), (PHASE, 6, 1), (PHASE, 5, 1), 'the clearance number is 6 or more'),
+    'sampling after the new clearance number': ((OPEN, (PLAN, 2, 2)), (PHASE, 6, 1), (PHASE, 7, 1), 'unit 6 at the latest'),
+    'sampling by a run from before a demand':
+        ((OPEN, (PLAN, 3, 2), (SILENCE, 3, 1)), (PHASE, 4, 1), (PHASE, 8, 1), 'unit 7 at the latest'),
+    'a higher frequency with a clearance number of 1':
+        (((START, 0, 1), (PHASE, 1, 1)), (SILENCE, 1, 1), (PLAN, 1, 2), 'and it is 1'),
+    'a lower frequency with the highest clearance number':
+        (((START, 0, 10_000),), (PLAN, 0, 2), (PLAN, 0, 4), 'and it is 10,000'),
+    'a level too soon': (SAMPLING, (PHASE, 18, 2), (PHASE, 17, 2), '5 good samples after unit 5 take at least 13 units'),
+    'a level too late': (SAMPLING, (PHASE, 20, 2), (PHASE, 21, 2), '5 good samples after unit 5 take at most 15 units'),
 }
 # What a marker may hide is possible again: the entry that no station could write, behind a marker.
 MADE_POSSIBLE = (
-    'a step of two levels', 'screening with no cause', 'LONG with no DEFECT', 'a silence that starts at two', 'CHECK in sampling',
+    'a step of two levels', 'screening out of screening', 'LONG with no DEFECT', 'a silence that starts at two',
+    'CHECK in sampling', 'two PLANs alike', 'a lower frequency in sampling than the last', 'PLAN at a level with no PHASE',
+    'PLAN before the PHASE of a jump', 'LONG once and then none', 'level 0 again and no PLAN',
 )
+# What another plan makes possible: its own S and its own clearance number, told or hidden by a marker.
+UNDER_ANOTHER = {
+    'LONG sooner': (OPEN, (DEFECT, 5, 0), (DEFECT, 7, 0), (PLAN, 7, 4), (INTERRUPT, 7, 0), (DEFECT, 13, 0), (LONG, 13, 6)),
+    'LONG sooner, behind a marker':
+        (OPEN, (DEFECT, 5, 0), (DEFECT, 7, 0), (MARKER, 0, 1), (INTERRUPT, 7, 0), (DEFECT, 13, 0), (LONG, 13, 6)),
+    'LONG no more': (OPEN, (DEFECT, 5, 0), (LONG, 5, 5), (PLAN, 5, 4), (DEFECT, 6, 0), (SILENCE, 6, 1)),
+    'LONG no more, behind a marker':
+        (OPEN, (DEFECT, 5, 0), (LONG, 5, 5), (MARKER, 0, 1), (INTERRUPT, 5, 0), (DEFECT, 11, 0), (SILENCE, 11, 1)),
+    'a shorter run': (OPEN, (PLAN, 0, 2), (PHASE, 1, 1)),
+    'a shorter run, behind a marker': (OPEN, (MARKER, 0, 1), (INTERRUPT, 3, 0), (PHASE, 4, 1)),
+    'a longer run': (OPEN, (PLAN, 0, 4), (PHASE, 10_000, 1)),
+    'a longer run, behind a marker': (OPEN, (MARKER, 0, 1), (INTERRUPT, 3, 0), (PHASE, 10_003, 1)),
+}
+# Where the n that was opened is not known, the unit of a jump may have come under either plan.
+UNCERTAIN = ('on demand, higher, after a jump',)
+# Every way in which a plan takes force, from one in 3 with a clearance number of 3, and the frequencies that are told.
+TAKEN_UP = {
+    'higher, at the shift to sampling': ((PHASE, 3, 1), (PLAN, 3, 2), (SILENCE, 9, 1), [(1, 3, 3), (4, 9, 2)]),
+    'higher, at once in sampling': ((PHASE, 3, 1), (PLAN, 7, 2), (SILENCE, 9, 1), [(1, 7, 3), (8, 9, 2)]),
+    'higher, at once at a level':
+        ((PHASE, 3, 1), (PHASE, 10, 2), (PHASE, 20, 1), (PLAN, 20, 2), (PHASE, 22, 2), [(1, 20, 3), (21, 22, 2)]),
+    'higher, with a watch on':
+        ((PHASE, 3, 1), (DEFECT, 7, 1), (PLAN, 7, 2), (DEFECT, 8, 1), (PHASE, 8, 0), [(1, 7, 3), (8, 8, 2)]),
+    'lower, at once in screening': ((PLAN, 2, 5), (PHASE, 4, 1), [(1, 2, 3), (3, 4, 5)]),
+    'lower, at once before the first unit': ((PLAN, 0, 5), (PHASE, 4, 1), [(1, 4, 5)]),
+    'lower, at once, and LONG by the units before':
+        ((DEFECT, 1, 0), (PLAN, 2, 5), (DEFECT, 4, 0), (LONG, 4, 4), [(1, 2, 3), (3, 4, 5)]),
+    'lower, at a revert':
+        ((PHASE, 3, 1), (DEFECT, 7, 1), (PHASE, 7, 0), (PLAN, 7, 5), (PHASE, 8, 1), [(1, 7, 3), (8, 8, 5)]),
+    'lower, at an interrupt':
+        ((PHASE, 3, 1), (INTERRUPT, 3, 0), (PHASE, 3, 0), (PLAN, 3, 5), (PHASE, 7, 1), [(1, 3, 3), (4, 7, 5)]),
+    'lower, at a jump':
+        ((PHASE, 3, 1), (MISSED, 6, 2), (PHASE, 8, 0), (PLAN, 8, 5), (PHASE, 11, 1), [(1, 7, 3), (8, 8, (3, 5)), (9, 11, 5)]),
+    'on demand, higher, in screening': ((PLAN, 2, 2), (PHASE, 4, 1), [(1, 2, 3), (3, 4, 2)]),
+    'on demand, lower, in screening': ((PLAN, 2, 5), (PHASE, 6, 1), [(1, 2, 3), (3, 6, 5)]),
+    'on demand, higher, in sampling':
+        ((PHASE, 3, 1), (PHASE, 9, 0), (PLAN, 9, 2), (PHASE, 11, 1), [(1, 9, 3), (10, 11, 2)]),
+    'on demand, lower, in sampling': ((PHASE, 3, 1), (PHASE, 9, 0), (PLAN, 9, 5), (PHASE, 13, 1), [(1, 9, 3), (10, 13, 5)]),
+    'on demand, at a level':
+        ((PHASE, 3, 1), (PHASE, 10, 2), (PHASE, 20, 0), (PLAN, 20, 2), (PHASE, 22, 1), [(1, 20, 3), (21, 22, 2)]),
+    'on demand, higher, with a watch on':
+        ((PHASE, 3, 1), (DEFECT, 7, 1), (PHASE, 7, 0), (PLAN, 7, 2), (PHASE, 9, 1), [(1, 7, 3), (8, 9, 2)]),
+    'on demand, higher, after a jump':
+        ((PHASE, 3, 1), (MISSED, 6, 2), (PHASE, 8, 0), (PLAN, 8, 2), (PHASE, 10, 1), [(1, 8, 3), (9, 10, 2)]),
+    'a jump in screening, which takes up nothing': ((MISSED, 2, 2), (PLAN, 4, 5), (PHASE, 7, 1), [(1, 4, 3), (5, 7, 5)]),
+    'a silence that goes on over a change':
+        ((SILENCE, 0, 1), (PLAN, 0, 5), (SILENCE, 0, 2), (PLAN, 0, 2), (SILENCE, 0, 3), []),
+    'three in a row':
+        ((PHASE, 3, 1), (PHASE, 3, 0), (PLAN, 3, 9), (PLAN, 3, 5), (PLAN, 3, 2), (SILENCE, 4, 1), [(1, 3, 3), (4, 4, 2)]),
+}
 
 
 def check(report, pair, options):
     says(report, 'the example', (FOLDER / 'example.out').read_bytes(), EXAMPLE)
     says(report, 'every kind', lines(*KINDS), EVERY_KIND, '--events')
+    says(report, 'refusals of a change', lines((10, 0, 0, 0, 0), (11, 0, 0, 0, 0)), REFUSED)
     for name, text, closing, status in closings():
         closes(report, name, text, closing, status)
     damaged(report)
     many_damaged(report)
     out_of_place(report)
     histories(report)
+    changes(report)
     whole_sessions(report)
     files(report)
     heard, caught, tried = random_journals(report, options)
     return (f'every kind, {len(DAMAGED)} damaged lines, {len(closings())} closing lines, every stored session, '
-            f'{len(HISTORIES)} histories that no station could write, {heard:,} events of random sessions; '
+            f'{len(HISTORIES) + len(KNOWN)} histories that no station could write, {len(TAKEN_UP)} changes of plan, '
+            f'{heard:,} events of random sessions; '
             f'of {tried:,} changed journals {caught:,} caught')
 
 
@@ -252,25 +415,41 @@ def numbered(entries):
     return answers
 
 
-def faults(answers):
-    """What is said of each line that is not well, by its place."""
+def heard_of(answers, n=None):
+    """The journal that answers tell, where n was opened, and what is said of each line that is not well, by its place."""
     heard, said = Journal(), {}
+    if n is not None:
+        heard.opened_with(n)
     for at, (_, *entry) in enumerate(answers, 1):
         fault = heard.hear(at, *entry)
         if fault:
             said[at] = fault
-    return said
+    return heard, said
+
+
+def faults(answers, n=None):
+    return heard_of(answers, n)[1]
+
+
+def one_is_possible(report, name, before, good, bad, why, n=None):
+    """Of two entries after the same ones, a station can write the one and not the other."""
+    report.check(not faults(numbered((*before, good)), n), f'bin/journal does not take what a station can write beside: {name}')
+    said = faults(numbered((*before, bad)), n)
+    report.check(list(said) == [len(before) + 1] and why in said[len(before) + 1], f'bin/journal says of {name}: {said}')
 
 
 def histories(report):
-    for name, (before, good, bad, why) in HISTORIES.items():
-        report.check(not faults(numbered((*before, good))), f'bin/journal does not take what a station can write beside: {name}')
-        said = faults(numbered((*before, bad)))
-        report.check(list(said) == [len(before) + 1] and why in said[len(before) + 1], f'bin/journal says of {name}: {said}')
+    for name, history in HISTORIES.items():
+        one_is_possible(report, name, *history)
+    for name, history in KNOWN.items():
+        one_is_possible(report, name, *history, OPENED_WITH)
     for name in MADE_POSSIBLE:
         before, _, bad, _ = HISTORIES[name]
         said = faults(numbered((*before, *HIDDEN, bad)))
         report.check(not said, f'bin/journal forgets that a marker may hide what makes it possible: {name}: {said}')
+    for name, entries in UNDER_ANOTHER.items():
+        said = faults(numbered(entries))
+        report.check(not said, f'bin/journal holds another plan to the one opened: {name}: {said}')
     said = faults(numbered((OPEN, (SILENCE, 4, 1), (INTERRUPT, 2, 0), (SILENCE, 3, 1))))
     report.check(list(said) == [3], f'bin/journal says one fault more than once: {said}')
     done = journal(lines(*numbered((*SAMPLING, (DEFECT, 9, 0), (SILENCE, 9, 1)))))
@@ -278,6 +457,60 @@ def histories(report):
     closed = done.stdout.endswith(b'No station could write this journal: 1 line cannot be (line 3).\n')
     said = note in done.stdout and closed and done.returncode == 1
     report.check(said, f'bin/journal on a wrong DEFECT:\n{done.stdout.decode()}')
+
+
+# ---- Plans that change
+
+def changes(report):
+    """Each way in which a plan takes force is possible, and the frequencies are those of its stretches."""
+    for name, (*entries, parts) in TAKEN_UP.items():
+        for n in (None, OPENED_WITH):
+            heard, said = heard_of(numbered(((START, 0, 3), *entries)), n)
+            told_so = [(first, last, at_opening(held, n)) for first, last, held in joined(heard.frequencies.stretches)]
+            wanted = [(first, last, held) for first, last, held in parts]
+            good = not said and (told_so == wanted or (n is None and name in UNCERTAIN))
+            report.check(good, f'bin/journal, opened with {n}, on {name}: {said or told_so}')
+    says(report, 'frequencies', lines(*numbered(CHANGING)), FREQUENCIES, '--frequency', '3')
+    as_opened = FREQUENCIES.replace('1 to 2      one in 3', '1 to 2      as opened').replace('a one in 3', 'a as opened')
+    says(report, 'frequencies with no option', lines(*numbered(CHANGING)), as_opened)
+    frequency_options(report)
+
+
+def frequency_options(report):
+    """The n that was opened is a plan's, and is said where there is an entry, with no PLAN too."""
+    for text in ('1', '201', '-3', '3.5', 'x', ''):
+        done = journal(told(1), f'--frequency={text}')
+        refused = done.returncode == 2 and b'an n from 2 to 200' in done.stderr and not done.stdout
+        report.check(refused, f'bin/journal takes the frequency {text!r}: {done.stderr!r}')
+    for text, said in {
+        told(1): 'Frequency in force\n  from unit 1 on: one in 7, unless an event after 1 says otherwise\n',
+        told(2): 'Frequency in force\n  from unit 1 on: not told\n',
+        b'': '',
+    }.items():
+        out = journal(text, '--frequency', '7').stdout.decode()
+        report.check(said in out and out.count('Frequency') == said.count('Frequency'), f'bin/journal with one in 7 says: {out}')
+        out = journal(text).stdout.decode()
+        report.check(out and 'Frequency' not in out, f'bin/journal tells a frequency that nothing tells: {out}')
+    done = journal(lines(*numbered((OPEN, (PLAN, 2, 7)))), '--frequency', '7')
+    held = done.returncode == 1 and b'one in 7 is in force already' in done.stdout
+    report.check(held, f'bin/journal does not hold a PLAN to the plan opened: {done.stdout.decode()}')
+
+
+def joined(stretches):
+    """Neighbours at which the same held, as one."""
+    parts = []
+    for first, last, held in stretches:
+        if parts and parts[-1][2] == held:
+            first = parts.pop()[0]
+        parts.append((first, last, held))
+    return parts
+
+
+def at_opening(held, n):
+    """The n that was opened where nothing else was in force."""
+    if isinstance(held, tuple):
+        return tuple(at_opening(one, n) for one in held)
+    return OPENED_WITH if held == OPENED and n is None else held
 
 
 # ---- What stations do write
@@ -297,29 +530,70 @@ def whole_sessions(report):
 
 def random_journals(report, options):
     """Every event of random sessions is possible, with markers in any place too; most changes of one entry are not."""
-    heard = caught = tried = 0
+    heard = caught = tried = known = plans = 0
     for at in range(max(20, options.count // 10)):
         name = f'{options.seed}-journal-{at}'
-        entries, chosen = whole_journal(name), random.Random(name)
+        witness, chosen = Witness(name), random.Random(name)
+        entries = witness.whole_journal()
         heard += len(entries)
+        plans += sum(kind == PLAN for _, kind, *_ in entries)
         for told_so in (entries, with_markers(entries, chosen), with_markers(entries, chosen)):
-            report.check(not faults(told_so), f'bin/journal calls the random session {name} impossible: {faults(told_so)}')
+            for n in (None, witness.ns[0][1]):
+                journal_heard, said = heard_of(told_so, n)
+                report.check(not said, f'bin/journal, opened with {n}, calls the random session {name} impossible: {said}')
+                wrong, right = witness.judge(journal_heard.frequencies.stretches)
+                report.check(not wrong, f'bin/journal, opened with {n}, has the wrong frequency in {name}: {wrong[:2]}')
+                known += right
         for _ in range(5):
             changed = with_a_change(entries, chosen)
             tried += 1
             caught += bool(faults(changed))
+    report.check(plans > 0 and known > 0, f'{plans:,} changes of plan and {known:,} known frequencies in random sessions')
     report.check(caught > tried * 2 // 3, f'bin/journal finds {caught:,} of {tried:,} changed journals to be impossible')
     return heard, caught, tried
 
 
-def whole_journal(name):
-    """Every event of a random session: the model's queue has room for all of them."""
-    driver = Driver(name)
-    driver.program.queue = [0] * (3 * model.MOST_ROOM)
-    driver.drive()
-    while driver.take()[1]:
-        pass
-    return [answer for answer in driver.answers if answer[1]]
+class Witness(Driver):
+    """A random session that writes down from which unit on each n was in force."""
+
+    def __init__(self, seed):
+        super().__init__(seed)
+        self.ns = []
+
+    def line(self, text):
+        last, n = (self.station.last, self.station.n) if self.station else (0, None)
+        answer = super().line(text)
+        if self.station and n is None:
+            self.ns.append((1, self.station.n))
+        elif self.station and self.station.last > last:
+            self.note(last + 1, n)  # a jump is made under the plan before it, and its unit comes under the plan after it
+            self.note(self.station.last, self.station.n)
+        return answer
+
+    def note(self, unit, n):
+        if self.ns[-1][1] != n:
+            self.ns.append((unit, n))
+
+    def whole_journal(self):
+        """Every event of the session: the model's queue has room for all of them."""
+        self.program.queue = [0] * (3 * model.MOST_ROOM)
+        self.drive()
+        while self.take()[1]:
+            pass
+        return [answer for answer in self.answers if answer[1]]
+
+    def judge(self, stretches):
+        """The stretches that have another frequency than was in force, and how many have the right one."""
+        known = [(first, min(last, self.station.last), held) for first, last, held in stretches if held is not None]
+        wrong = [stretch for stretch in known if not self.within(*stretch)]
+        return wrong, len(known) - len(wrong)
+
+    def within(self, first, last, held):
+        """Whether every n in force at these units is one that is told."""
+        ends = [unit - 1 for unit, _ in self.ns[1:]] + [self.station.last]
+        in_force = {n for (unit, n), end in zip(self.ns, ends) if unit <= last and end >= first}
+        told = held if isinstance(held, tuple) else (held,)
+        return in_force <= {self.ns[0][1] if n == OPENED else n for n in told}
 
 
 def with_markers(entries, chosen):
