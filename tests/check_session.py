@@ -14,19 +14,22 @@ import subprocess
 import sys
 import tempfile
 import time
+from collections import Counter
 from pathlib import Path
 
+import check_journal
 import model
 import programs
 from check_stored import FOLDER
 from drive import Driver
 from programs import ROOT
+from script import Script
 
 sys.path.insert(0, str(ROOT / 'bin'))
 
 from lib import calls, phases, summary
 from lib import words as in_words
-from lib.session import Session
+from lib.session import HEAD, Session
 
 COMMANDS = ('session', 'journal', 'run')
 NOT_PASSED_ON = ('RECORDER_ROOT', 'SECOND_ROOT', 'PYTHONUNBUFFERED')  # each would change what is tried
@@ -74,6 +77,126 @@ Summary
   dropped    1 to 3: the first events, before SILENCE 4 (no unit yet)
 Events 1 to 3 were dropped, and the marker says so; 4 to 11 were taken.
 '''
+# Plans that change, in each way that frames can ask for it.
+CHANGED = '''\
+    frame  call and answer         event         number       unit  what it says
+        1  change to CSP-1 n 5 i 4 S 4: refused 2, no station is open
+        2  open CSP-1 n 3 i 3 S 5 seed 0x0
+        3  change to CSP-1 n 2 i 2 S 2: higher, at once in sampling, else at the shift to it
+        4  unit 1: inspect
+        5  result: conforming
+        6  unit 2: inspect
+        7  result: conforming
+        8  unit 3: inspect
+        9  result: conforming
+       10  take                    START              1             clearance number 3
+       11  take                    PHASE              2          3  sampling level 0
+       12  take                    PLAN               3          3  a new plan takes force: one in 2
+       13  take: nothing to tell
+       14  change on demand to CSP-1 n 2 i 9 S 9: the same frequency, nothing changes
+       15  change to CSP-1 n 5 i 4 S 4: lower, waits for the return to screening
+       16  unit 4: inspect
+       17  result: conforming
+       18  unit 5: pass
+       19  unit 6: inspect
+       20  result: conforming
+       21  unit 7: pass
+       22  unit 38: inspect, 30 units not seen: 8 to 37
+       23  change to CSP-1 n 5 i 4 S 4: refused 4, an inspection result is owed
+       24  result: conforming
+       25  take                    MISSED             4          8  30 units not seen: 8 to 37
+       26  take                    PHASE              5         38  screening
+       27  take                    PLAN               6         38  a new plan takes force: one in 5
+       28  take: nothing to tell
+       29  change to CSP-2 n 5 i 4 S 4: refused 11, another type, CSP-F, or i does not go with n
+       30  change to CSP-1 n 7 i 4 S 4: refused 11, another type, CSP-F, or i does not go with n
+       31  change on demand to CSP-1 n 7 i 5 S 4: refused 3, a plan number is out of range
+       32  ill-formed frame: refused 9  '09 00000001 00000007 00000005 00000005 00000000 00' ..
+       33  change to CSP-1 n 7 i 5 S 5: lower, at once
+       34  change on demand to CSP-1 n 3 i 1 S 1: at once, by a fresh screening sequence
+       35  unit 39: inspect
+       36  result: conforming
+       37  unit 40: pass
+       38  unit 41: pass
+       39  unit 42: inspect
+       40  result: conforming
+       41  unit 43: pass
+       42  unit 44: pass
+       43  change to CSP-1 n 2 i 1 S 1: refused 11, another type, CSP-F, or i does not go with n
+       44  take                    PLAN               7         38  a new plan takes force: one in 7
+       45  take                    PLAN               8         38  a new plan takes force: one in 3
+       46  take                    PHASE              9         39  sampling level 0
+       47  take: nothing to tell
+
+Summary
+  plan       CSP-1 n 3 i 3 S 5 seed 0x0
+  frames     47: open 1, unit 14, result 8, change 11, take 12, ill-formed 1
+             7 refused: 1 with 2, 1 with 3, 1 with 4, 1 with 9, 3 with 11
+  units      44: 8 conforming, 0 defective, 6 passed, 30 missed, 0 owed a result
+  events     9 told: START 1, PHASE 3, MISSED 1, PLAN 4
+  phases     1 to 3    screening
+             4 to 7    sampling level 0
+             8 to 37   missed
+             38 to 39  screening
+             40 to 44  sampling level 0
+             [###0000.##00000]
+             one sign a unit: # screening, 0 1 2 sampling level, . a missed stretch, ? not told
+  frequency  1 to 3    one in 3
+             4 to 37   one in 2
+             38        one in 5
+             39 to 44  one in 3
+             [aaabbbb.caaaaaa]
+             one sign a unit: a one in 3, b one in 2, . a missed stretch, c one in 5
+Every event from 1 to 9 was taken and none is missing.
+'''
+# The same session with another answer to one frame, and what is said of it.
+WRONG = {
+    'a change that is due a refusal for its type': (29, model.DONE, 'refusal 11 is due here'),
+    'a change that is due a refusal for its i': (30, model.DONE, 'refusal 11 is due here'),
+    'a change that is due a refusal for its range': (31, model.DONE, 'refusal 3 is due here'),
+    'a change while a result is owed': (23, model.DONE, 'refusal 4 is due here'),
+    'a change before an open': (1, model.DONE, 'refusal 2 is due here'),
+    'a demand that is neither 0 nor 1': (32, model.DONE, 'an ill-formed frame is refused with 9'),
+    'a good change refused': (15, model.refused(11), 'no refusal is due here'),
+    'a change refused as no change is': (15, model.refused(8), 'no change is refused with 8'),
+    'a change with an order': (15, (0, 0, 0, 0, 1), 'only a unit is given an order'),
+    'a change that tells its event': (33, (0, 10, 7, 38, 7), 'only a take tells an event'),
+    'a plan that waits in sampling': (12, (0, 10, 3, 3, 4), 'only a higher frequency'),
+    'a plan that nobody asked for': (27, (0, 10, 6, 38, 9), 'no change that was taken asks for one in 9 here'),
+    'a plan that is asked for later': (27, (0, 10, 6, 38, 7), 'no change that was taken asks for one in 7 here'),
+    'a plan of another unit': (44, (0, 10, 7, 39, 7), 'the calls raise PLAN with unit 38 here'),
+    'a change at once that is kept back': (44, model.DONE, '2 events or more are untold'),
+    'another event for a change at once': (44, (0, 8, 7, 38, 0), 'the calls raise PLAN with unit 38 here'),
+    'a call that tells half its events': (26, model.DONE, 'the MISSED that was told calls for PHASE next'),
+}
+# Changes of plan written out by hand: each frame and its answer, with leading zeros of words cut.
+GOOD = '02 {0}>00 00 0 0 1, 03 0>00 00 0 0 0'
+BYTES = {
+    'a higher frequency waits in screening':
+        '01 1 3 3 5 0 0 0>00 00 0 0 0, 09 1 2 2 2 0 0 0>00 00 0 0 0, 07>00 01 1 0 3, 07>00 00 0 0 0, 1, 2, 3, '
+        '07>00 02 2 3 1, 07>00 0A 3 3 2, 07>00 00 0 0 0',
+    'a lower one waits in sampling':
+        '01 1 3 3 5 0 0 0>00 00 0 0 0, 1, 2, 3, 09 1 5 4 4 0 0 0>00 00 0 0 0, 07>00 01 1 0 3, 07>00 02 2 3 1, '
+        '04>00 00 0 0 0, 07>00 08 3 3 0, 07>00 02 4 3 0, 07>00 0A 5 3 5, 07>00 00 0 0 0',
+    'on demand in screening, then in sampling':
+        '01 1 3 3 5 0 0 0>00 00 0 0 0, 1, 2, 09 1 2 2 2 0 0 1>00 00 0 0 0, 07>00 01 1 0 3, 07>00 0A 2 2 2, 3, 4, '
+        '09 1 3 3 3 0 0 1>00 00 0 0 0, 07>00 02 3 4 1, 07>00 02 4 4 0, 07>00 0A 5 4 3, 07>00 00 0 0 0',
+    'at once in screening':
+        '01 1 3 3 5 0 0 0>00 00 0 0 0, 1, 2, 09 1 5 4 4 0 0 0>00 00 0 0 0, 07>00 01 1 0 3, 07>00 0A 2 2 5, 3, 4, '
+        '07>00 02 3 4 1, 07>00 00 0 0 0',
+}
+SHOWN = {
+    'a higher frequency waits in screening': ['a new plan takes force: one in 2', 'frequency  1 to 3  one in 3'],
+    'a lower one waits in sampling': ['a new plan takes force: one in 5', 'frequency  1 to 3  one in 3'],
+    'on demand in screening, then in sampling':
+        ['one in 2', 'change on demand to CSP-1 n 3 i 3 S 3: at once', 'frequency  1 to 2  one in 3', '3 to 4  one in 2'],
+    'at once in screening': ['one in 5', 'frequency  1 to 2  one in 3', '3 to 4  one in 5'],
+}
+# What is said of accepted changes in random sessions, each once or more: whether n is the new one before and after the call.
+SAID_OF_CHANGES = {
+    'nothing changes': (True, True), 'at once': (False, True), 'fresh screening sequence': (False, True),
+    'waits for the shift to sampling': (False, False), 'waits for the return to screening': (False, False),
+}
 # A row that a stored session must have.
 ROWS = {
     'ill-formed-after-open': "        8  ill-formed frame: refused 9  '09'",
@@ -112,13 +235,15 @@ VERDICTS = {
 def check(report, pair, options):
     stored_sessions(report)
     verdicts(report)
+    changes(report)
     heard = random_sessions(report, options)
     if programs.RECORDER in pair:
         by_recorder(report)
     with tempfile.TemporaryDirectory() as folder:
         os.chmod(folder, 0o755)
         ways = in_scratch(report, Path(folder))
-    return (f'every stored session, {len(VERDICTS)} verdicts, {heard:,} random sessions against the model, '
+    return (f'every stored session, {len(VERDICTS)} verdicts, {len(WRONG)} wrong answers to changes of plan, '
+            f'{heard:,} random sessions against the model, '
             f'{ways} checks of how the commands are called and how they fail')
 
 
@@ -158,16 +283,81 @@ def verdicts(report):
         report.check(said == verdict, f'bin/session after {then} ends: {said}')
 
 
-class Witness(Driver):
-    """A random session that writes down the phase that each unit was handled in."""
+# ---- Plans that change
+
+def changing():
+    """A session that changes its plan in each way, and asks for what is refused."""
+    script = Script()
+    script.change(model.CSP_1, 5, 4, 4)
+    script.open(model.CSP_1, 3, 3, 5)
+    script.change(model.CSP_1, 2, 2, 2)
+    script.good(3)
+    script.take_all()
+    script.change(model.CSP_1, 2, 9, 9, demand=1)
+    script.change(model.CSP_1, 5, 4, 4)
+    script.units(4)
+    script.unit(script.station.last + 31)
+    script.change(model.CSP_1, 5, 4, 4)
+    script.result(0)
+    script.take_all()
+    script.change(model.CSP_2, 5, 4, 4)
+    script.change(model.CSP_1, 7, 4, 4)
+    script.change(model.CSP_1, 7, 5, 4, demand=1)
+    script.change(model.CSP_1, 7, 5, 5, demand=2)
+    script.change(model.CSP_1, 7, 5, 5)
+    script.change(model.CSP_1, 3, 1, 1, demand=1)
+    script.good()
+    script.units(5)
+    script.change(model.CSP_1, 2, 1, 1)
+    script.take_all()
+    return script
+
+
+def changes(report):
+    script = changing()
+    said = heard_of(script.text(), script.expected())[1]
+    report.check(HEAD + said.replace('\nSummary', '\n\nSummary') + '\n' == CHANGED, f'bin/session on changes of plan says:\n{said}')
+    for name, (frame, answer, why) in WRONG.items():
+        answers = [*script.answers[:frame - 1], answer, *script.answers[frame:]]
+        session, said = heard_of(script.text(), b''.join(map(model.written, answers)))
+        row = said.splitlines()[frame - 1:frame + 1]
+        noted = len(row) == 2 and row[1].lstrip().startswith('!') and why in row[1] and frame in session.journal.impossible
+        report.check(noted, f'bin/session on {name} says: {row}')
+    for name, turns in BYTES.items():
+        frames, answers = by_hand(turns)
+        session, said = heard_of(frames, answers)
+        shown = session.journal.sound() and all(text in said for text in SHOWN[name])
+        report.check(shown, f'bin/session on {name} says:\n{said}')
+        report.check(model.run(frames) == answers, f'the model does not give these answers: {name}')
+
+
+def by_hand(turns):
+    """Frames and answers as they are written here; a number alone is a unit that is inspected and conforms."""
+    whole = ', '.join(GOOD.format(turn) if turn.isdigit() else turn for turn in turns.split(', '))
+    frames, answers = zip(*(turn.split('>') for turn in whole.split(', ')))
+    return b''.join(written(frame, 1) for frame in frames), b''.join(written(answer, 2) for answer in answers)
+
+
+def written(text, short):
+    """A line with its words in full; the first few are of two digits."""
+    parts = text.split()
+    return ' '.join(parts[:short] + [part.zfill(8) for part in parts[short:]]).encode() + b'\n'
+
+
+# ---- Random sessions
+
+class Witness(check_journal.Witness):
+    """A random session that writes down the phase that each unit was handled in, and n before and after each call."""
 
     def __init__(self, seed):
         super().__init__(seed)
         self.handled = {}
+        self.around = []
 
     def line(self, text):
-        last = self.station.last if self.station else 0
+        last, n = (self.station.last, self.station.n) if self.station else (0, 0)
         answer = super().line(text)
+        self.around.append((n, self.station.n if self.station else 0))
         if self.station and self.station.last > last:
             level = 1 + self.station.level if self.station.phase else 0
             self.handled.update({unit: phases.NOT_SEEN for unit in range(last + 1, self.station.last)})
@@ -179,6 +369,7 @@ def random_sessions(report, options):
     """The tallies are the model's, a phase that is told is right, and a session that was taken to its end tells all."""
     count = max(20, options.count // 15)
     told = caught = 0
+    said_of_changes = Counter()
     for at in range(count):
         witness = Witness(f'{options.seed}-session-{at}')
         witness.near_the_limit = lambda: None  # a million missed units make a slow witness
@@ -187,9 +378,25 @@ def random_sessions(report, options):
         report.check(session.journal.sound(), f'bin/session calls random session {at} impossible: {said.splitlines()[-1]}')
         told += against_model(report, at, witness, session, said.splitlines()[-1])
         caught += one_wrong_answer(report, at, witness, text)
+        said_of_changes.update(changes_said(report, at, witness, text, said))
+        wrong, _ = witness.judge(session.journal.frequencies.stretches)
+        report.check(not wrong, f'random session {at} has the wrong frequency: {wrong[:2]}')
+    report.reached(said_of_changes, SAID_OF_CHANGES)
     report.check(told > 0, 'no random session told every phase')
     report.check(caught > count * 2 // 3, f'of {count} sessions with one wrong answer {caught} are caught')
     return count
+
+
+def changes_said(report, at, witness, text, said):
+    """What the rows of the accepted changes end with, each held to n before and after the call."""
+    rows = said.splitlines()
+    for frame, (code, words) in enumerate(calls.read_frames(text)):
+        if code == calls.CHANGE and witness.answers[frame] == model.DONE:
+            ending = next((ending for ending in SAID_OF_CHANGES if rows[frame].endswith(ending)), None)
+            is_new = tuple(n == words[1] for n in witness.around[frame])
+            good = ending is None or SAID_OF_CHANGES[ending] == is_new
+            report.check(good, f'random session {at} says of a change: {rows[frame]}, and n is {witness.around[frame]}')
+            yield ending
 
 
 def one_wrong_answer(report, at, witness, text):
@@ -240,6 +447,7 @@ def by_recorder(report):
     events = ''.join([rows[0], *rows[10:14], *rows[15:]])
     text = (FOLDER / 'example.in').read_bytes()
     expect(report, 'standard input', command('session', '--events', '-', input=text), 0, events)
+    expect(report, 'changes of plan', command('session', '-', input=changing().text()), 0, CHANGED)
 
 
 def expect(report, name, done, status, said):
@@ -460,7 +668,9 @@ def recorders(report, scratch):
         ('a journal that is kept back', f'10s/.*/{line}/', '2 events or more are untold'),
         ('another plan than was opened', '10s/2$/3/', 'the calls raise START with unit 0 here'),
         ('an event that no call raised', '11s/.*/00 06 00000002 00000001 00000001/', 'the calls raise MISSED with unit 5 here'),
-        ('an event of a kind that is none', '10s/^00 01/00 0A/', 'there is no kind 10'),
+        ('an event of a kind that is none', '10s/^00 01/00 0B/', 'there is no kind 11'),
+        ('a plan that takes force with no change', '12s/.*/00 0A 00000003 00000004 00000003/', 'only a higher frequency'),
+        ('a plan that nobody asked for', '11s/.*/00 0A 00000002 00000001 00000003/', 'no change that was taken asks for one in 3'),
         ('a marker that names nothing', '10s/.*/00 09 00000001 00000000 00000000/', 'names one number or more'),
         ('a unit that has not come', '13s/00000006/00000007/', 'calls for unit 6'),
         ('an order that is due no more', '14s/.*/09 00 00000000 00000000 00000000/', 'no take is refused with 9'),
