@@ -212,6 +212,9 @@ HISTORIES = {
         ((OPEN, (PLAN, 2, 4), (DEFECT, 12, 0), (LONG, 12, 12), (DEFECT, 14, 0)), (LONG, 14, 14), (LONG, 14, 12), '14 units came'),
     'a higher level too soon under the plan told':
         ((*SAMPLING, (PLAN, 9, 4), (PHASE, 13, 2)), (PHASE, 14, 3), (PHASE, 13, 3), 'given before'),
+    'PLAN in sampling with a clearance number of 1': (((START, 0, 1), (PHASE, 1, 1)), (SILENCE, 1, 1), (PLAN, 1, 4), 'and it is 1'),
+    'level 0 again behind a marker and no PLAN':
+        ((*LEFT, (MARKER, 0, 1), (PHASE, 14, 1)), (PLAN, 14, 2), (SILENCE, 14, 2), 'calls for PLAN'),
     'PLAN with the number after the last':
         (SPENT, (PLAN, 1, 4), (SILENCE, 1, 6), 'no SILENCE has a number above 7,999,998'),
     'PHASE with the last number':
@@ -233,8 +236,9 @@ KNOWN = {
     'sampling after the new clearance number': ((OPEN, (PLAN, 2, 2)), (PHASE, 6, 1), (PHASE, 7, 1), 'unit 6 at the latest'),
     'sampling by a run from before a demand':
         ((OPEN, (PLAN, 3, 2), (SILENCE, 3, 1)), (PHASE, 4, 1), (PHASE, 8, 1), 'unit 7 at the latest'),
-    'a higher frequency with a clearance number of 1':
-        (((START, 0, 1), (PHASE, 1, 1)), (SILENCE, 1, 1), (PLAN, 1, 2), 'and it is 1'),
+    'LONG by units from before a demand': ((OPEN, (PLAN, 3, 2), (DEFECT, 5, 0)), (LONG, 5, 2), (LONG, 5, 5), '2 units came'),
+    'a reduced clearance number after a change at once':
+        ((*SAMPLING, (DEFECT, 9, 1), (PHASE, 9, 0), (PLAN, 10, 4)), (PHASE, 15, 1), (PHASE, 14, 1), 'is 6 or more'),
     'a lower frequency with the highest clearance number':
         (((START, 0, 10_000),), (PLAN, 0, 2), (PLAN, 0, 4), 'and it is 10,000'),
     'a level too soon': (SAMPLING, (PHASE, 18, 2), (PHASE, 17, 2), '5 good samples after unit 5 take at least 13 units'),
@@ -466,9 +470,8 @@ def changes(report):
     for name, (*entries, parts) in TAKEN_UP.items():
         for n in (None, OPENED_WITH):
             heard, said = heard_of(numbered(((START, 0, 3), *entries)), n)
-            told_so = [(first, last, at_opening(held, n)) for first, last, held in joined(heard.frequencies.stretches)]
-            wanted = [(first, last, held) for first, last, held in parts]
-            good = not said and (told_so == wanted or (n is None and name in UNCERTAIN))
+            told_so = [(first, last, at_opening(held, n)) for first, last, held in heard.frequencies.stretches]
+            good = not said and (told_so == parts or (n is None and name in UNCERTAIN))
             report.check(good, f'bin/journal, opened with {n}, on {name}: {said or told_so}')
     says(report, 'frequencies', lines(*numbered(CHANGING)), FREQUENCIES, '--frequency', '3')
     as_opened = FREQUENCIES.replace('1 to 2      one in 3', '1 to 2      as opened').replace('a one in 3', 'a as opened')
@@ -494,16 +497,6 @@ def frequency_options(report):
     done = journal(lines(*numbered((OPEN, (PLAN, 2, 7)))), '--frequency', '7')
     held = done.returncode == 1 and b'one in 7 is in force already' in done.stdout
     report.check(held, f'bin/journal does not hold a PLAN to the plan opened: {done.stdout.decode()}')
-
-
-def joined(stretches):
-    """Neighbours at which the same held, as one."""
-    parts = []
-    for first, last, held in stretches:
-        if parts and parts[-1][2] == held:
-            first = parts.pop()[0]
-        parts.append((first, last, held))
-    return parts
 
 
 def at_opening(held, n):

@@ -164,6 +164,7 @@ WRONG = {
     'a plan that waits in sampling': (12, (0, 10, 3, 3, 4), 'only a higher frequency'),
     'a plan that nobody asked for': (27, (0, 10, 6, 38, 9), 'no change that was taken asks for one in 9 here'),
     'a plan that is asked for later': (27, (0, 10, 6, 38, 7), 'no change that was taken asks for one in 7 here'),
+    'a plan that has been told': (45, (0, 10, 8, 38, 5), 'no change that was taken asks for one in 5 here'),
     'a plan of another unit': (44, (0, 10, 7, 39, 7), 'the calls raise PLAN with unit 38 here'),
     'a change at once that is kept back': (44, model.DONE, '2 events or more are untold'),
     'another event for a change at once': (44, (0, 8, 7, 38, 0), 'the calls raise PLAN with unit 38 here'),
@@ -317,6 +318,7 @@ def changes(report):
     script = changing()
     said = heard_of(script.text(), script.expected())[1]
     report.check(HEAD + said.replace('\nSummary', '\n\nSummary') + '\n' == CHANGED, f'bin/session on changes of plan says:\n{said}')
+    after_a_jump(report)
     for name, (frame, answer, why) in WRONG.items():
         answers = [*script.answers[:frame - 1], answer, *script.answers[frame:]]
         session, said = heard_of(script.text(), b''.join(map(model.written, answers)))
@@ -329,6 +331,27 @@ def changes(report):
         shown = session.journal.sound() and all(text in said for text in SHOWN[name])
         report.check(shown, f'bin/session on {name} says:\n{said}')
         report.check(model.run(frames) == answers, f'the model does not give these answers: {name}')
+
+
+def after_a_jump(report):
+    """A jump's unit came under the plan that the jump took up, unless a change on its result may have taken it up."""
+    for on_result, parts in (
+        (False, [(1, 8, 'one in 3'), (9, 11, 'one in 5')]),
+        (True, [(1, 8, 'one in 3'), (9, 9, 'one in 3 or one in 5'), (10, 11, 'one in 5')]),
+    ):
+        script = Script()
+        script.open(model.CSP_1, 3, 3)
+        script.good(3)
+        if not on_result:
+            script.change(model.CSP_1, 5, 4, 4)
+        script.unit(9)
+        script.result(0)
+        if on_result:
+            script.change(model.CSP_1, 5, 4, 4)
+        script.units(2)
+        script.take_all()
+        told = heard_of(script.text(), script.expected())[0].journal.frequencies.labelled(11, [])
+        report.check(told == parts, f'bin/session after a jump and a change says: {told}')
 
 
 def by_hand(turns):

@@ -18,6 +18,7 @@ LATEST = {PLAN: MOST_EVENTS, PHASE: MOST_EVENTS - 1, LONG: MOST_EVENTS - 1}  # P
 LEAST_ROOM = 8
 SCREENING, SAMPLING = 0, 1
 CSP_2, CSP_T = 'CSP-2', 'CSP-T'
+NO_CAUSE = 'PHASE with no cause'
 BLOCK = {2: 1, 3: 2}  # L, in multiples of n, at the level that a PHASE to level 1 or to level 2 leaves
 
 
@@ -175,7 +176,7 @@ class History:
 
     def revert(self, unit):
         """MISSED and INTERRUPT have said what starts; a defective sample reverts here; with no cause it is a demand."""
-        cause = 'PHASE with no cause'
+        cause = NO_CAUSE
         if self.caused is not None:
             cause = self.caused.cause
             if cause == 'DEFECT':
@@ -188,7 +189,7 @@ class History:
             demand(self.phase != SCREENING, 'the phase is screening already')
             self.at(unit, settles=True, handled=False)
             self.screen(unit)
-        self.due = Due(PLAN, unit, cause == 'PHASE with no cause', cause)
+        self.due = Due(PLAN, unit, cause == NO_CAUSE, cause)
 
     def sample(self, unit, value):
         if self.phase == value:

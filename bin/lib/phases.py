@@ -21,7 +21,10 @@ class Stretches:
     def through(self, unit, held):
         """This held at the units up to this one."""
         if unit > self.covered:
-            self.stretches.append((self.covered + 1, unit, held))
+            first = self.covered + 1
+            if self.stretches and self.stretches[-1][2] == held:
+                first = self.stretches.pop()[0]
+            self.stretches.append((first, unit, held))
             self.covered = unit
 
     def labelled(self, last, missed):

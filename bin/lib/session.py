@@ -43,14 +43,14 @@ class Tally:
         return sum(last - first + 1 for first, last in self.missed)
 
 
-SAME, AT_ONCE, WAITS, OPEN_END = 'same', 'at once', 'waits', 'open'  # what a change does, as far as it is known
+SAME, AT_ONCE, WAITS, EITHER = 'same', 'at once', 'waits', 'either'  # what a change does, as far as it is known
 HIGHER = {
     AT_ONCE: ': higher, at once', WAITS: ': higher, waits for the shift to sampling',
-    OPEN_END: ': higher, at once in sampling, else at the shift to it',
+    EITHER: ': higher, at once in sampling, else at the shift to it',
 }
 LOWER = {
     AT_ONCE: ': lower, at once', WAITS: ': lower, waits for the return to screening',
-    OPEN_END: ': lower, at once in screening, else at the return to it',
+    EITHER: ': lower, at once in screening, else at the return to it',
 }
 
 
@@ -86,7 +86,7 @@ class Plans:
             return SAME, ': the same frequency, nothing changes'
         if n in known or None in known:
             self.may.add((n, i))
-            return OPEN_END, ''
+            return EITHER, ''
         if demanded:
             self.may = {(n, i)}
             return AT_ONCE, ': at once, by a fresh screening sequence'
@@ -97,8 +97,8 @@ class Plans:
 def taken_up(higher, lower, phase):
     """A higher frequency is taken up in sampling, a lower one in screening."""
     if not higher and not lower:
-        return OPEN_END, ''
-    when = OPEN_END if phase is None else AT_ONCE if higher == (phase != SCREENING) else WAITS
+        return EITHER, ''
+    when = EITHER if phase is None else AT_ONCE if higher == (phase != SCREENING) else WAITS
     return when, (HIGHER if higher else LOWER)[when]
 
 
@@ -333,7 +333,7 @@ class Session:
             self.raised.asked.append((n, self.tally.last))
         if does == AT_ONCE:
             self.raised.surely(PLAN, self.tally.last, n)
-        elif does == OPEN_END:
+        elif does == EITHER:
             self.raised.perhaps()
         return calls.asked(code, said) + in_words
 
