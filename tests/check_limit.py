@@ -1,49 +1,76 @@
-"""Refusal 10 over frames: a session that uses up all eight million event numbers. It is too long to store."""
+"""Refusal 10 over frames: sessions that come to the end of the eight million event numbers. They are too long to store."""
 
 import subprocess
 import tempfile
 
-import model
 import programs
-from model import DEFECT, EVENT_LIMIT, LONG, MARKER, PROGRAM_ROOM, SILENCE, refused, written
+from model import DEFECT, DONE, EVENT_LIMIT, MARKER, PHASE, PLAN, PROGRAM_ROOM, SILENCE, refused, written
 from script import words
 
-# START and these leave two numbers, for a defect that raises LONG too.
-TICKS = EVENT_LIMIT - 3
-PATTERN = written(model.DONE) * 20_000
+OPEN = words(1, 1, 2, 1, 1, 0, 0, 0)
+# START and these leave four numbers.
+TICKS = EVENT_LIMIT - 5
+PATTERN = written(DONE) * 20_000
+INSPECT = (0, 0, 0, 0, 1)
+LOWER, EQUAL, OTHER_TYPE = (1, 3, 2, 2, 0, 0), (1, 2, 1, 1, 0, 0), (2, 2, 1, 1, 0, 0)
 
 
 def check(report, pair, options):
-    ending, answers = the_end()
+    ends = {'no event number left': none_left(), 'two event numbers left': two_left()}
     with tempfile.TemporaryFile() as frames:
-        frames.write(words(1, 1, 2, 1, 1, 0, 0, 0) + b'\n' + (words(6) + b'\n') * TICKS + ending)
-        for program in pair:
-            frames.seek(0)
-            said = compare(programs.recorder_job(program), frames, TICKS + 1, answers)
-            report.check(not said, f'all event numbers used, {program}: {said}')
-    return f'{TICKS + 1 + len(answers):,} frames that use all {EVENT_LIMIT:,} event numbers'
+        frames.write(OPEN + b'\n' + (words(6) + b'\n') * TICKS)
+        begun = frames.tell()
+        for end, turns in ends.items():
+            frames.truncate(begun)
+            frames.seek(begun)
+            frames.write(b''.join(frame + b'\n' for frame, _ in turns))
+            for program in pair:
+                frames.seek(0)
+                said = compare(programs.recorder_job(program), frames, TICKS + 1, [answer for _, answer in turns])
+                report.check(not said, f'{end}, {program}: {said}')
+    ended = ' and '.join(f'{len(turns)} to {end}' for end, turns in ends.items())
+    return f'{TICKS + 1:,} frames that leave four of {EVENT_LIMIT:,} event numbers, then {ended}'
 
 
-def the_end():
-    """The last frames, and document 01's answer to each."""
-    turns = [(words(2, 1), (0, 0, 0, 0, 1)), (words(3, 1), model.DONE)]
-    no_more = (words(2, 2), words(2, 0), words(3, 0), words(3, 2), words(4), words(5), words(6))
-    turns += [(frame, refused(10)) for frame in no_more]
-    turns += [(words(1, 1, 2, 1, 1, 0, 0, 0), refused(9)), (b'6', refused(9))]
-    turns += [(words(7), answer) for answer in the_journal()]
-    turns += [(words(6), refused(10))]
-    return b''.join(frame + b'\n' for frame, _ in turns), [answer for _, answer in turns]
+# ---- The last frames, and the documents' answer to each
+
+def none_left():
+    """One call takes the last three numbers: a waiting plan is taken up at a defect."""
+    events = [
+        (0, SILENCE, EVENT_LIMIT - 4, 0, EVENT_LIMIT - 5), (0, PHASE, EVENT_LIMIT - 3, 1, 1),
+        (0, DEFECT, EVENT_LIMIT - 2, 2, 1), (0, PHASE, EVENT_LIMIT - 1, 2, 0), (0, PLAN, EVENT_LIMIT, 2, 3),
+    ]
+    return [
+        (words(2, 1), INSPECT), (words(3, 0), DONE), (words(9, *LOWER, 0), DONE), (words(2, 2), INSPECT), (words(3, 1), DONE),
+        *no_more(), *the_journal(events), (words(6), refused(10)),
+    ]
 
 
-def the_journal():
-    """One marker for all that did not stay, the last silences, the defect, the alarm, and nothing more."""
-    first_held = EVENT_LIMIT - PROGRAM_ROOM + 1
-    yield (0, MARKER, 1, 0, first_held - 1)
-    for number in range(first_held, EVENT_LIMIT - 1):
-        yield (0, SILENCE, number, 0, number - 1)
-    yield (0, DEFECT, EVENT_LIMIT - 1, 1, 0)
-    yield (0, LONG, EVENT_LIMIT, 1, 1)
-    yield model.DONE
+def two_left():
+    """Three numbers are enough for every call and two for none, though the call would raise none: they stay unused."""
+    events = [(0, SILENCE, EVENT_LIMIT - 3, 0, EVENT_LIMIT - 4), (0, SILENCE, EVENT_LIMIT - 2, 1, 1)]
+    return [
+        (words(6), DONE), (words(9, *EQUAL, 1), DONE), (words(2, 1), INSPECT), (words(6), DONE), (words(6), DONE),
+        *no_more(), *the_journal(events), (words(6), refused(10)),
+    ]
+
+
+def no_more():
+    """Every call but open and take, whether it could be done or not; faults of form and a second open come before it."""
+    calls = [words(2, 2), words(2, 3), words(2, 0), words(3, 0), words(3, 2), words(4), words(5), words(6)]
+    calls += [words(9, *plan, demand) for plan in (LOWER, EQUAL, OTHER_TYPE) for demand in (0, 1)]
+    yield from ((frame, refused(10)) for frame in calls)
+    yield from ((frame, refused(9)) for frame in (OPEN, b'6', words(9, *LOWER, 2)))
+
+
+def the_journal(events):
+    """One marker for all that did not stay, silences, the last events, and nothing more."""
+    first_held = events[-1][2] - PROGRAM_ROOM + 1
+    yield words(7), (0, MARKER, 1, 0, first_held - 1)
+    for number in range(first_held, events[0][2]):
+        yield words(7), (0, SILENCE, number, 0, number - 1)
+    yield from ((words(7), event) for event in events)
+    yield words(7), DONE
 
 
 def compare(command, frames, plain, answers):
@@ -52,7 +79,7 @@ def compare(command, frames, plain, answers):
     with process.stdout as out:
         said = plain_answers(out, plain)
         if not said and out.read() != b''.join(map(written, answers)):
-            said = 'the answers at the end are not document 01\'s'
+            said = 'the answers at the end are not the documents\''
     if process.wait() != 0:
         return f'the program ended with {process.returncode}'
     return said
