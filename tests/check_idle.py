@@ -14,6 +14,8 @@ from report import Report
 IDLE = {'ends at once': ['false'], 'repeats its input': ['cat']}
 # A peer need not wait long for these: an answer that comes too late is a failure, which is what is looked for.
 PATIENCE = 0.2
+# Nor does it take many sessions or calls to see that nothing is done.
+FEW = dict(TRIES=5, CALLS={'willing': 20})
 PARTS = {
     'stored': check_stored.check, 'random': check_random.check, 'pipe': check_pipe.check, 'output': check_output.check,
     'mistakes': check_mistakes.check,
@@ -37,7 +39,8 @@ def check(report, pair, options):
     few = Namespace(seed=options.seed, count=5)
     for way, words in IDLE.items():
         for part, check_part in PARTS.items():
-            with patch.object(programs, 'recorder_job', lambda name: words), patch.object(check_pipe, 'PATIENCE', PATIENCE):
+            idle = dict.fromkeys(('recorder_job', 'probe_job'), lambda name: words)
+            with patch.multiple(programs, **idle), patch.object(check_pipe, 'PATIENCE', PATIENCE), patch.multiple(check_mistakes, **FEW):
                 unheard = Unheard()
                 check_part(unheard, (programs.SECOND,), few)
             report.check(unheard.failed, f'{part} passes with a program that {way}')

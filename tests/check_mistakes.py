@@ -1,30 +1,44 @@
-"""The test of the tests: the second program with one of document 01's four mistakes switched on must be caught.
+"""The test of the tests: the second program with one of the mistakes that look right switched on must be caught.
 
 A program that does nothing differs from every session, and shows nothing. So each mistaken program must answer the
-sessions in which its mistake cannot show as they are stored, and must end well on all.
+sessions and the calls in which its mistake cannot show as they are due, and must end well on all.
 """
 
+import model
+import probes
 import programs
 from check_stored import FOLDER
 from drive import Driver
+from parallel import in_parallel
+from probes import Probes
 
-TRIES = 120
-# The stored sessions that each mistake shows in are few: the program must agree with at least this share of them all.
+TRIES = 500
+CALLS = {'willing': 10_000, 'changes': 4_000}
+# What each mistake shows in is little: the program must agree with at least this share of all sessions, and of all calls.
 AGREED = 0.75
+# Refusal 10 comes after eight million events: a mistake in it shows in calls alone.
+IN_CALLS_ALONE = (9,)
 
 
 def check(report, pair, options):
     stored = [(path.stem, path.read_bytes(), path.with_suffix('.out').read_bytes()) for path in sorted(FOLDER.glob('*.in'))]
-    random = [random_session(f'{options.seed}-{at}') for at in range(TRIES)]
+    random = list(in_parallel(random_session, [f'{options.seed}-{at}' for at in range(TRIES)]))
+    calls = list(probe_calls(options.seed))
     said = []
-    for number in programs.MISTAKES:
+    for number in programs.mistakes():
         words = programs.recorder_job(programs.mistaken(number))
         by_stored, by_random = (caught(report, number, words, sessions) for sessions in (stored, random))
-        does_its_job = len(stored) - len(by_stored) >= AGREED * len(stored) > 0
-        report.check(does_its_job, f'mistake {number} shows in {len(by_stored)} of {len(stored)} stored sessions: it is no station')
-        report.check(by_stored and by_random, f'no stored session or no random one catches mistake {number}')
-        said.append(f'\n    {number}: caught by {len(by_random)} of {TRIES} random sessions, and by {", ".join(by_stored)}')
-    return f'{len(said)} of document 01\'s mistakes that look right{"".join(said)}'
+        by_calls = caught_calls(report, number, calls)
+        for name, differing, tried in (('stored sessions', by_stored, stored), ('calls', by_calls, calls)):
+            does_its_job = len(tried) - len(differing) >= AGREED * len(tried) > 0
+            report.check(does_its_job, f'mistake {number} shows in {len(differing)} of {len(tried)} {name}: it is no station')
+        report.check(by_calls, f'no call of the probe catches mistake {number}')
+        if number not in IN_CALLS_ALONE:
+            report.check(by_stored, f'no stored session catches mistake {number}')
+            report.check(by_random, f'no random session catches mistake {number}')
+        said.append(f'\n    {number}: caught by {len(by_random)} of {TRIES} random sessions, {len(by_calls)} of {len(calls):,} calls')
+        said[-1] += f', and by {", ".join(by_stored)}' if by_stored else ''
+    return f'{len(said)} mistakes that look right{"".join(said)}'
 
 
 def random_session(name):
@@ -42,3 +56,18 @@ def caught(report, number, words, sessions):
         if given != expected:
             differing.append(name)
     return differing
+
+
+def probe_calls(seed):
+    """Single calls that can mostly be done, each with the answer that is due."""
+    for kind, count in CALLS.items():
+        for made in getattr(Probes(f'{seed}-mistakes-{kind}'), kind)(count):
+            yield probes.written(made.words()), probes.written(model.probe(made.words()))
+
+
+def caught_calls(report, number, calls):
+    """The calls that the program answers otherwise than is due; it must answer each, and end well."""
+    sent = b''.join(request + b'\n' for request, _ in calls)
+    given = programs.output(programs.probe_job(programs.mistaken(number)), sent).split(b'\n')[:-1]
+    report.check(len(given) == len(calls), f'mistake {number} does not answer each of {len(calls):,} calls')
+    return [request for (request, due), answer in zip(calls, given) if answer != due]

@@ -2,22 +2,23 @@
 
 import random
 
-from model import CSP_F, CSP_T, CSP_V, SAMPLING, SCREENING, TABLE_V_AQL, UNIT_LIMIT, refused, sound, written
+from model import CSP_2, CSP_F, CSP_T, CSP_V, SAMPLING, SCREENING, TABLE_V_AQL, UNIT_LIMIT, refused, sound, written
 from reached import Watcher, waits
 from script import Script, words
 
 # How often each call comes when no result is owed. A line of work is mostly units; each profile leans one way.
 CALLS = ('unit', 'stretch', 'jump', 'interrupt', 'find', 'tick', 'take', 'change', 'refused', 'ill_formed')
 PROFILES = {
-    'work': (70, 3, 1, 1, 2, 4, 10, 1, 1, 1),
+    'work': (80, 1, 1, 1, 2, 4, 10, 1, 1, 1),
     'journal': (40, 1, 3, 3, 3, 10, 40, 3, 1, 1),
     'quiet': (20, 1, 2, 2, 2, 60, 4, 2, 1, 1),
     'rough': (50, 1, 10, 10, 15, 5, 10, 5, 2, 2),
-    'changing': (40, 8, 2, 2, 3, 3, 10, 10, 1, 1),
+    'changing': (60, 5, 2, 2, 3, 3, 10, 10, 1, 1),
     'hostile': (40, 1, 3, 3, 5, 5, 10, 5, 20, 20),
 }
-# The new n and i beside those in force: below (-1), equal (0) or above (1). The last ones are not allowed.
-SIDES = ((-1, -1), (1, 1)) * 5 + ((0, 0), (0, 1), (0, -1), (-1, 0), (-1, 1), (1, 0), (1, -1))
+# The new n and i beside those in force: below (-1), equal (0) or above (1).
+ALLOWED = ((-1, -1), (-1, -1), (1, 1), (1, 1), (0, 1), (0, -1))
+NOT_ALLOWED = ((-1, 0), (-1, 1), (1, 0), (1, -1))
 SEEDS = (0, 1, 2 ** 31, 2 ** 32 - 1)
 ODD_NUMBERS = (0, 1, 2, 3, 7, 8, 9, 200, 201, 10_000, UNIT_LIMIT, UNIT_LIMIT + 1, 2 ** 31, 2 ** 32 - 1)
 
@@ -80,23 +81,28 @@ class Driver(Script):
         elif self.recallable() and self.chance(0.2):
             self.find()
         elif self.chance(self.wish()):
-            self.do_change()
+            self.change_to(*self.random.choice(ALLOWED))
         else:
             getattr(self, 'do_' + self.random.choices(CALLS, self.weights)[0])()
 
     def luck(self):
         """A defect where one seldom falls by itself."""
         st = self.station
-        if st.level or self.long_row() or (st.phase == SAMPLING and waits(st)):
-            return 0.2
-        return 0.1 if self.reduced() else 0.0
+        if waits(st):
+            return 0.3 if st.phase == SAMPLING else 0.0
+        unwatched = st.type == CSP_2 and st.phase == SAMPLING and not st.watch
+        return 0.2 if st.level or self.long_row() or self.reduced() or unwatched else 0.0
 
     def wish(self):
         """A change where one seldom falls by itself, or a second one."""
         st = self.station
-        if self.reduced() and not waits(st):
-            return 0.5
-        return 0.15 if st.level or self.long_row() or st.watched or waits(st) else 0.0
+        if waits(st):
+            return 0.05
+        if self.reduced() or st.watched:
+            return 0.4
+        if st.level or self.long_row():
+            return 0.1
+        return 0.02 if st.phase == SAMPLING else 0.0
 
     def long_row(self):
         return self.station.type == CSP_V and self.station.row == self.station.i
@@ -161,7 +167,7 @@ class Driver(Script):
 
     def do_stretch(self):
         """Good units alone, as far as a rare place: levels, long rows and the ends of watches lie beyond many of them."""
-        for _ in range(80):
+        for _ in range(50):
             if self.station.owed:
                 self.result(0)
             elif self.station.level == 2 or self.long_row() or self.station.last == self.limit():
@@ -185,8 +191,10 @@ class Driver(Script):
         self.take(self.random.choice((1, 1, 2, 10)))
 
     def do_change(self):
+        self.change_to(*self.random.choice(self.random.choice((ALLOWED, ALLOWED, NOT_ALLOWED))))
+
+    def change_to(self, n_side, i_side):
         st = self.station
-        n_side, i_side = self.random.choice(SIDES)
         n, i = self.beside(st.n, n_side, 2), self.beside(st.i, i_side, 1)
         if self.chance(0.03):
             i = 10_001

@@ -92,6 +92,8 @@ class Probes(Records):
             (self.owing if made.call == RESULT else self.owing_nothing)(made)
             if made.call == UNIT:
                 made.arguments = [made.st.last + self.random.choice((1, 1, 2, 9))]
+            if made.call == RESULT:
+                made.arguments = [self.random.randrange(2)]
             if made.call == FIND and made.st.phase == SCREENING and made.st.conforming:
                 made.st.unrecalled = max(made.st.unrecalled, 1)
             if made.call == CHANGE:

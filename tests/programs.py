@@ -9,6 +9,7 @@ RECORDER_ROOT and SECOND_ROOT name other repositories to take the programs from.
 
 import os
 import platform
+import re
 import shutil
 import subprocess
 from functools import lru_cache
@@ -21,7 +22,6 @@ BUILD = ROOT / 'build'
 
 RECORDER, SECOND, SANITIZED = 'recorder', 'second', 'second-sanitize'
 NAMES = (RECORDER, SECOND, SANITIZED)
-MISTAKES = (1, 2, 3, 4)
 
 
 class Missing(Exception):
@@ -95,6 +95,14 @@ def second_program(name):
 
 def mistaken(number):
     return f'second-mistake-{number}'
+
+
+def mistakes():
+    """The numbers of the mistakes that second/build can make: it alone says how many there are."""
+    told = re.search(r'(?m)^# second/build mistake N .*, N from 1 to (\d+)$', (SECOND_ROOT / 'second' / 'build').read_text())
+    if told is None:
+        raise Missing('second/build does not say how many mistakes it can make')
+    return range(1, int(told[1]) + 1)
 
 
 def second_under_kit():
