@@ -28,7 +28,7 @@ def check(report, pair, options):
             held_to_stored(report, name, text, answers)
     ends = held_to_model(report)
     records = held_to_edges(report)
-    return f'{told} sessions, {calls:,} calls; {ends} plans, entries and memories; {records} records'
+    return f'{told} sessions, {calls:,} calls; {ends} plans, entries, memories and changes; {records} records'
 
 
 def held_to_stored(report, name, text, answers):
@@ -157,15 +157,18 @@ def example(report):
 # ---- Edges.antt
 
 def held_to_model(report):
-    text = read(report, 'Edges.antt', 'edges-hold : allSeen (plans ++ entries ++ memories) ≡ allDue (plans ++ entries ++ memories)')
-    kinds = {'plan': plan_due, 'find': entry_due, 'words': memory_due}
-    rows = re.findall(r'\b(plan|find|words)((?: \d+)+) ▸ (\w+(?: \d+)*)', text)
+    lists = 'plans ++ entries ++ memories ++ changes'
+    text = read(report, 'Edges.antt', f'edges-hold : allSeen ({lists}) ≡ allDue ({lists})')
+    kinds = {'plan': plan_due, 'find': entry_due, 'words': memory_due, 'change': change_due}
+    rows = re.findall(r'\b(plan|find|words|change)((?: \d+)+) ▸ (\w+(?: \d+)*)', text)
     for kind, numbers, due in rows:
         said = kinds[kind](*map(number, numbers.split()))
         report.check(due == said, f'{kind}{numbers}: {due} in the proof, and {said} by the model')
     for kind in kinds:
         report.check(any(row[0] == kind for row in rows), f'Edges.antt has no row of {kind}')
-    second_opens(report, [list(map(number, row[1].split())) for row in rows if row[0] == 'plan'])
+    plans, changes = ([list(map(number, row[1].split())) for row in rows if row[0] == kind] for kind in ('plan', 'change'))
+    second_says(report, [[words(1, *plan, 0)] for plan in plans])
+    second_says(report, [[words(1, *change[:6], 0), words(9, *change[6:], 0)] for change in changes])
     return len(rows)
 
 
@@ -182,12 +185,19 @@ def memory_due(count):
     return 'taken' if model.room_of([0] * count) else 'refused 1'
 
 
-def second_opens(report, plans):
-    """The second program says the same of the plans."""
+def change_due(*plans):
+    """A change right after an open with the plan in force, which has to be one."""
+    _, station = model.open_station([0] * 24, *plans[:6], 0)
+    refusal = model.change(station, [0] * 24, *plans[6:], 0)[0]
+    return f'refused {refusal}' if refusal else 'taken'
+
+
+def second_says(report, sessions):
+    """The second program says the same of the plans and of the changes."""
     job = programs.recorder_job(programs.SECOND)
-    for plan in plans:
-        text = words(1, *plan, 0) + b'\n'
-        report.agreed(f'plan {plan}', text, {'model': model.run(text), 'second': programs.output(job, text)})
+    for lines in sessions:
+        text = b''.join(line + b'\n' for line in lines)
+        report.agreed(lines[-1].decode(), text, {'model': model.run(text), 'second': programs.output(job, text)})
 
 
 # ---- Records.antt
@@ -195,7 +205,7 @@ def second_opens(report, plans):
 def held_to_edges(report):
     """The table has each record of the probe's edges, with what the model says of it, and no other."""
     text = read(report, 'Records.antt', 'records-hold : allSeen records ≡ allDue records')
-    rows = dict(re.findall(r'\b((?:screening|sampling)(?: \d+)+) ▸ (passes|unsound)', text))
+    rows = dict(re.findall(r'(?<!\()\b((?:waits(?: \d+){6} \()?(?:screening|sampling)(?: \d+)+\)?) ▸ (passes|unsound)', text))
     due = {record_row(station): 'passes' if model.sound(station) else 'unsound' for _, *pair in edges.edges() for station in pair}
     for row, said in due.items():
         report.check(rows.get(row) == said, f'{row}: {rows.get(row, "nothing")} in the proof, and {said} by the model')
@@ -204,12 +214,18 @@ def held_to_edges(report):
 
 
 def record_row(station):
-    """A record by its numbers, as the table has it; room, generator and the flag heard are the same in all of them."""
+    """A record by its numbers, as the table has it, with the plan that waits, if any, before it; room, generator and the flag
+    heard are the same in all of them."""
     phases = {
         model.SCREENING: ('screening', model.SCREENING_FIELDS),
         model.SAMPLING: ('sampling', model.SAMPLING_FIELDS),
     }
     name, fields = phases[station.phase]
-    plan, tallies = ('type', 'n', 'i', 'S', 'x', 'N'), ('conforming', 'defective', 'passed', 'missed', 'owed', 'last')
-    numbers = ('silent', 'told', 'oldest', 'next')
-    return ' '.join([name, *(str(getattr(station, field)) for field in (*plan, *tallies, *fields, *numbers))])
+    tallies, numbers = ('conforming', 'defective', 'passed', 'missed', 'owed', 'last'), ('silent', 'told', 'oldest', 'next')
+    row = spaced(name, *(getattr(station, field) for field in (*model.PLAN_FIELDS, *tallies, *fields, *numbers)))
+    waiting = model.waiting_plan(station)
+    return row if waiting == model.NO_PLAN else f'{spaced("waits", *waiting)} ({row})'
+
+
+def spaced(name, *numbers):
+    return ' '.join([name, *map(str, numbers)])
