@@ -1,11 +1,15 @@
-"""The model against document 01's own numbers: its example, its nine cases and what it says of the tables.
+"""The model against the documents' own numbers: document 01's example, its nine cases and what it says of the tables, and
+the sentences of document 02 on a change of plan.
 
 Every other part compares with the model, so the model must have been held to the document first.
 """
 
 import model
 from check_stored import FOLDER
-from model import CSP_1, CSP_2, CSP_F, CSP_T, CSP_V, DONE, LONG, SAMPLING, SCREENING, SILENCE, TABLE_III_A_4, TABLE_V, refused
+from model import (
+    CSP_1, CSP_2, CSP_F, CSP_T, CSP_V, DONE, INTERRUPT, LONG, PHASE, PLAN, SAMPLING, SCREENING, SILENCE, START, TABLE_III_A_4, TABLE_V,
+    refused,
+)
 from script import Script
 
 EXAMPLE = b'''\
@@ -32,9 +36,12 @@ def check(report, pair, options):
     for number, case in enumerate(cases, 1):
         for at, holds in enumerate(case(), 1):
             report.check(holds, f'the model breaks document 01\'s case {number}, at its check {at}')
+    for case in CHANGES:
+        for at, holds in enumerate(case(), 1):
+            report.check(holds, f'the model breaks W1 in {case.__name__}, at its check {at}')
     for law, holds in table_laws().items():
         report.check(holds, f'the model\'s tables: {law}')
-    return f'the example, {len(cases)} cases and {len(table_laws())} laws of the tables'
+    return f'the example, {len(cases)} cases, {len(CHANGES)} changes of plan and {len(table_laws())} laws of the tables'
 
 
 def opened(*plan, **more):
@@ -141,6 +148,112 @@ def case_9():
     script.tick(10)
     yield script.take() == (0, 9, 1, 0, 3)
     yield script.take() == (0, SILENCE, 4, 0, 3)
+
+
+# ---- W1: changes of plan
+
+def told(script):
+    """The events that takes tell, without their numbers, up to "nothing"."""
+    script.take_all()
+    return [(kind, unit, value) for _, kind, _, unit, value in script.answers[-9:-1] if kind]
+
+
+def waits_in_screening():
+    """A higher frequency waits for the shift to sampling; the old need decides when."""
+    script = opened(CSP_1, 3, 3, 5)
+    yield script.change(CSP_1, 2, 2, 2) == DONE
+    script.good(2)
+    yield script.station.phase == SCREENING and script.station.n == 3
+    script.good()
+    yield script.station.phase == SAMPLING and plan_in_force(script) == [CSP_1, 2, 2, 2, 0, 0]
+    yield told(script) == [(START, 0, 3), (PHASE, 3, 1), (PLAN, 3, 2)]
+
+
+def waits_in_sampling():
+    """A lower one waits for the return to screening; a level change is none."""
+    script = opened(CSP_T, 3, 1, 5)
+    script.good()
+    yield script.change(CSP_T, 5, 4, 4) == DONE
+    script.good()
+    yield script.station.level == 1 and script.station.n == 3
+    script.interrupt()
+    yield script.station.need == 4 and script.station.n == 5
+    last = script.station.last
+    yield told(script) == [(START, 0, 1), (PHASE, 1, 1), (PHASE, last, 2), (INTERRUPT, last, 0), (PHASE, last, 0), (PLAN, last, 5)]
+
+
+def at_once_in_screening():
+    """A lower one is taken up at once: need is the new i, under CSP-V too, and run and screened stay."""
+    script = opened(CSP_V, 2, 3, x=2)
+    script.good(6)
+    script.bad()
+    script.good()
+    yield script.station.need == 2
+    script.change(CSP_V, 5, 4, 4, x=1)
+    yield (script.station.need, script.station.run, script.station.screened, script.station.unrecalled) == (4, 1, 1, 1)
+    yield last_event(script) == (PLAN, script.station.last, 5)
+
+
+def at_once_in_sampling():
+    """A higher one is taken up at once: a watch stays on with count 0, and a level that ends is told."""
+    script = opened(CSP_2, 4, 3)
+    script.good(3)
+    script.bad()
+    script.good(2)
+    yield script.station.watched == 2
+    script.change(CSP_2, 3, 2, 2)
+    yield (script.station.watch, script.station.watched, script.station.place, script.station.chosen) == (1, 0, 0, 0)
+    script = opened(CSP_T, 4, 2)
+    script.good(6)
+    script.take_all()
+    script.change(CSP_T, 3, 1, 1)
+    yield script.station.level == 0
+    yield told(script)[-2:] == [(PHASE, script.station.last, 1), (PLAN, script.station.last, 3)]
+
+
+def on_demand():
+    """Any change is made at once by a fresh sequence with the new i; whatever waited is gone."""
+    for n, i in ((2, 2), (5, 4)):
+        script = opened(CSP_1, 3, 3, 5)
+        script.good(2)
+        script.change(CSP_1, 2, 1, 1)
+        script.change(CSP_1, n, i, 5, demand=1)
+        yield (script.station.need, script.station.run, script.station.screened, script.station.unrecalled) == (i, 0, 0, 0)
+        yield model.waiting_plan(script.station) == model.NO_PLAN
+        yield told(script)[-1] == (PLAN, 2, n)
+
+
+def old_i_judges():
+    """Taken up as CSP-V reverts: the old i judges the samples, and need is the new x or the new i."""
+    for good, need in ((2, 6), (3, 2)):
+        script = opened(CSP_V, 2, 3, x=1)
+        script.good(3 + good)
+        script.change(CSP_V, 3, 6, 6, x=2)
+        script.bad()
+        yield script.station.need == need
+
+
+def equal_or_refused():
+    """Equal frequencies change nothing, and 11 comes before 3; a waiting plan stays in both."""
+    script = opened(CSP_1, 4, 4)
+    script.change(CSP_1, 3, 3, 3)
+    before = script.station.words()
+    yield script.change(CSP_1, 4, 9, 9, demand=1) == DONE
+    yield script.change(CSP_2, 3, 3, 3) == refused(11) == script.change(0, 3, 3, 3)
+    yield script.change(CSP_1, 1000, 4, 4) == refused(11) == script.change(CSP_1, 2, 4, 4)
+    yield script.change(CSP_1, 0, 3, 3) == refused(3) == script.change(CSP_1, 3, 3, 2)
+    yield script.station.words() == before
+    script = opened(CSP_F, 4, 4, N=9)
+    yield script.change(CSP_F, 3, 3, 0, N=9) == refused(11)
+
+
+def plan_in_force(script):
+    return script.station.words()[:6]
+
+
+CHANGES = (
+    waits_in_screening, waits_in_sampling, at_once_in_screening, at_once_in_sampling, on_demand, old_i_judges, equal_or_refused,
+)
 
 
 # ---- The tables

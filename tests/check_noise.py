@@ -45,22 +45,30 @@ def frames(chosen, type, size):
         k += 1 if chosen.random() < 0.999 else chosen.randrange(1, 50)
         turn = [words(2, k), words(3, chosen.random() < 0.1)]
         if chosen.random() < 0.3:
-            turn.append(chosen.choice((aside, words_of_chance, broken))(chosen))
+            turn.append(chosen.choice((aside, words_of_chance, broken, change))(chosen, type))
         parts += turn
         length += sum(map(len, turn)) + len(turn)
     return b'\n'.join(parts) + chosen.choice((b'', b'\n'))
 
 
-def aside(chosen):
+def change(chosen, type):
+    """Small plans of the type, so that most are on the side of the one in force that is allowed."""
+    n = chosen.choice((2, 3, 4, 5))
+    i = n + chosen.choice((0, 0, 0, 1))
+    x = chosen.choice((1, n)) if type == CSP_V else 0
+    return words(9, chosen.choice((type, type, type, chosen.choice(PLANS))), n, i, i + chosen.randrange(4), x, 0, chosen.choice((0, 0, 1)))
+
+
+def aside(chosen, type):
     return b'%02X' % chosen.choice((4, 5, 6, 6, 7, 7, 7, 7))
 
 
-def words_of_chance(chosen):
+def words_of_chance(chosen, type):
     numbers = [chosen.choice((*ODD, chosen.getrandbits(32))) for _ in range(chosen.choice((0, 1, 1, 1, 2, 4, 5, 7)))]
     return words(chosen.choice((1, 3, 8, 9, chosen.randrange(256))), *numbers)
 
 
-def broken(chosen):
-    line = bytearray(words(chosen.randrange(1, 9), *[chosen.getrandbits(32)] * chosen.choice((0, 1, 7))))
+def broken(chosen, type):
+    line = bytearray(words(chosen.randrange(1, 10), *[chosen.getrandbits(32)] * chosen.choice((0, 1, 7))))
     line[chosen.randrange(len(line))] = chosen.choice(b' \t\r0aFG-\x00\x80')
     return bytes(line)
