@@ -198,6 +198,8 @@ SAID_OF_CHANGES = {
     'nothing changes': (True, True), 'at once': (False, True), 'fresh screening sequence': (False, True),
     'waits for the shift to sampling': (False, False), 'waits for the return to screening': (False, False),
 }
+# Weights of the calls as in `drive`: so many takes that the phase is known, and changes to say something of.
+TAKEN_AT_ONCE = (40, 1, 1, 1, 1, 2, 60, 12, 1, 1)
 # A row that a stored session must have.
 ROWS = {
     'ill-formed-after-open': "        8  ill-formed frame: refused 9  '09'",
@@ -396,6 +398,8 @@ def random_sessions(report, options):
     for at in range(count):
         witness = Witness(f'{options.seed}-session-{at}')
         witness.near_the_limit = lambda: None  # a million missed units make a slow witness
+        if at % 2:
+            witness.weights = TAKEN_AT_ONCE
         text = witness.drive()
         session, said = heard_of(text, witness.expected_for(text))
         report.check(session.journal.sound(), f'bin/session calls random session {at} impossible: {said.splitlines()[-1]}')
