@@ -2057,9 +2057,10 @@ def pinned_open_f(s):
 @session
 def pinned_change(s):
     """Pinned. Frame 09: before an open, ill-formed, refused 11 and 3, waiting and on demand; take tells kind 0A."""
-    # before an open it gets 2, and a demand that is neither 0 nor 1 gets 9
+    # before an open it gets 2, and a demand that is neither 0 nor 1 gets 9, as does a seed in lower case
     s.change(CSP_1, 2, 2)
     s.line(words(9, CSP_1, 2, 2, 2, 0, 0, 2))
+    s.line(words(1, CSP_1, 3, 3, 5, 0, 0, 10).lower())
     # a higher frequency waits, and tells nothing
     s.open(CSP_1, 3, 3, 5)
     s.change(CSP_1, 2, 2)
