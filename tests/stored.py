@@ -2055,6 +2055,86 @@ def pinned_open_f(s):
 
 
 @session
+def pinned_csp_1_change_silence(s):
+    """Pinned. CSP-1: a change that waits, one at once and a take-up neither break a silence nor begin one."""
+    s.open(CSP_1, 4, 3, 9, seed=0x51ED270B)
+    s.tick(2)
+    s.good()
+    s.change(CSP_1, 2, 2, 9)
+    s.tick()
+    s.take_all()
+    # at once, after a unit and between two silent ticks
+    s.good()
+    s.change(CSP_1, 7, 5, 9)
+    s.tick(2)
+    s.change(CSP_1, 9, 6, 9)
+    s.tick()
+    s.take_all()
+    # taken up by a result: after a tick, and after a unit
+    s.change(CSP_1, 4, 3, 9)
+    s.good(3)
+    s.unit()
+    s.tick()
+    s.result(0)
+    s.tick()
+    s.change(CSP_1, 9, 6, 9)
+    s.bad()
+    s.tick()
+    s.take_all()
+
+
+@session
+def pinned_csp_1_change_long(s):
+    """Pinned. CSP-1: at once in screening, the new S judges the next defect, with the screened units that were."""
+    s.open(CSP_1, 4, 3, 50)
+    s.bad(3)
+    s.good()
+    s.change(CSP_1, 6, 4, 4)
+    s.bad()
+    s.take_all()
+
+
+@session
+def pinned_csp_2_change_watch(s):
+    """Pinned. CSP-2: a watch that has just begun stays on at a change at once, and the next defect reverts."""
+    s.open(CSP_2, 4, 3, 9, seed=0x3C6EF372)
+    s.good(3)
+    s.bad()
+    s.change(CSP_2, 2, 2, 9)
+    s.bad()
+    s.take_all()
+
+
+@session
+def pinned_csp_t_change_level(s):
+    """Pinned. CSP-T: at once at level 1, PHASE tells level 0 and then PLAN; the row has begun anew."""
+    s.open(CSP_T, 4, 3, 9, seed=0x1F83D9AB)
+    s.good(3)
+    s.good(3)
+    s.good()
+    s.change(CSP_T, 2, 2, 9)
+    s.take_all()
+    s.good(2)
+    s.take_all()
+
+
+@session
+def pinned_csp_v_change_need(s):
+    """Pinned. CSP-V: on demand the need is the new i, however long the row, and x is the new one from then on."""
+    s.open(CSP_V, 4, 3, 9, x=1, seed=0x9B05688C)
+    s.change(CSP_V, 6, 4, 9, x=2, demand=1)
+    s.good(4)
+    s.good(4)
+    s.bad()
+    s.good(2)
+    s.take_all()
+    s.good(3)
+    s.change(CSP_V, 2, 3, 9, x=1, demand=1)
+    s.good(3)
+    s.take_all()
+
+
+@session
 def pinned_change(s):
     """Pinned. Frame 09: before an open, ill-formed, refused 11 and 3, waiting and on demand; take tells kind 0A."""
     # before an open it gets 2, and a demand that is neither 0 nor 1 gets 9, as does a seed in lower case
@@ -2078,3 +2158,23 @@ def pinned_change(s):
     # on demand
     s.change(CSP_1, 5, 4, demand=1)
     s.take(3)
+
+
+@session
+def pinned_change_v(s):
+    """Pinned. Frame 09 word by word: CSP-V has an x, N is none of its numbers, and each word is a number."""
+    s.open(CSP_V, 3, 3, 5, x=2)
+    s.change(CSP_V, 2, 2, x=1)
+    s.change(CSP_V, 2, 2, x=1, N=1)
+    # a lower-case digit in i, in x, in N
+    for at in (2, 4, 5):
+        numbers = [CSP_V, 2, 2, 2, 1, 0, 1]
+        numbers[at] = 10
+        s.line(words(9, *numbers).lower())
+    # on demand: after i good units and i good samples, x is the need
+    s.change(CSP_V, 2, 2, x=1, demand=1)
+    s.good(2)
+    s.good(2)
+    s.bad()
+    s.good()
+    s.take_all()
