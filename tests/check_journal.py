@@ -84,14 +84,13 @@ FREQUENCIES = '''\
 Frequency in force
   1 to 2      one in 3
   3 to 40     one in 5
-  41 to 490   one in 4
-  491         one in 4 or one in 9
+  41 to 491   one in 4
   492 to 500  one in 9
   501 to 600  not told
   601 to 700  one in 4
   from unit 701 on: one in 4, unless an event after 13 says otherwise
   [abbbbbbbbbcccccccccccccdd?????????????????????????cccccccccccccccccccccccccc]
-  one sign for 4 units: a one in 3, b one in 5, c one in 4, ? not told, d one in 9
+  one sign for 4 units: a one in 3, b one in 5, c one in 4, d one in 9, ? not told
 Events 1 to 13: all accounted for; only named by a marker: 9 to 10; this file cannot tell what came after 13.
 '''
 CHANGING = (
@@ -263,8 +262,6 @@ UNDER_ANOTHER = {
     'a longer run': (OPEN, (PLAN, 0, 4), (PHASE, 10_000, 1)),
     'a longer run, behind a marker': (OPEN, (MARKER, 0, 1), (INTERRUPT, 3, 0), (PHASE, 10_003, 1)),
 }
-# Where the n that was opened is not known, the unit of a jump may have come under either plan.
-UNCERTAIN = ('on demand, higher, after a jump',)
 # Every way in which a plan takes force, from one in 3 with a clearance number of 3, and the frequencies that are told.
 TAKEN_UP = {
     'higher, at the shift to sampling': ((PHASE, 3, 1), (PLAN, 3, 2), (SILENCE, 9, 1), [(1, 3, 3), (4, 9, 2)]),
@@ -282,7 +279,7 @@ TAKEN_UP = {
     'lower, at an interrupt':
         ((PHASE, 3, 1), (INTERRUPT, 3, 0), (PHASE, 3, 0), (PLAN, 3, 5), (PHASE, 7, 1), [(1, 3, 3), (4, 7, 5)]),
     'lower, at a jump':
-        ((PHASE, 3, 1), (MISSED, 6, 2), (PHASE, 8, 0), (PLAN, 8, 5), (PHASE, 11, 1), [(1, 7, 3), (8, 8, (3, 5)), (9, 11, 5)]),
+        ((PHASE, 3, 1), (MISSED, 6, 2), (PHASE, 8, 0), (PLAN, 8, 5), (PHASE, 11, 1), [(1, 8, 3), (9, 11, 5)]),
     'on demand, higher, in screening': ((PLAN, 2, 2), (PHASE, 4, 1), [(1, 2, 3), (3, 4, 2)]),
     'on demand, lower, in screening': ((PLAN, 2, 5), (PHASE, 6, 1), [(1, 2, 3), (3, 6, 5)]),
     'on demand, higher, in sampling':
@@ -470,9 +467,9 @@ def changes(report):
     for name, (*entries, parts) in TAKEN_UP.items():
         for n in (None, OPENED_WITH):
             heard, said = heard_of(numbered(((START, 0, 3), *entries)), n)
-            told_so = [(first, last, at_opening(held, n)) for first, last, held in heard.frequencies.stretches]
-            good = not said and (told_so == parts or (n is None and name in UNCERTAIN))
-            report.check(good, f'bin/journal, opened with {n}, on {name}: {said or told_so}')
+            opened = {OPENED: OPENED_WITH} if n is None else {}
+            told_so = [(first, last, opened.get(held, held)) for first, last, held in heard.frequencies.stretches]
+            report.check(not said and told_so == parts, f'bin/journal, opened with {n}, on {name}: {said or told_so}')
     says(report, 'frequencies', lines(*numbered(CHANGING)), FREQUENCIES, '--frequency', '3')
     as_opened = FREQUENCIES.replace('1 to 2      one in 3', '1 to 2      as opened').replace('a one in 3', 'a as opened')
     says(report, 'frequencies with no option', lines(*numbered(CHANGING)), as_opened)
@@ -497,13 +494,6 @@ def frequency_options(report):
     done = journal(lines(*numbered((OPEN, (PLAN, 2, 7)))), '--frequency', '7')
     held = done.returncode == 1 and b'one in 7 is in force already' in done.stdout
     report.check(held, f'bin/journal does not hold a PLAN to the plan opened: {done.stdout.decode()}')
-
-
-def at_opening(held, n):
-    """The n that was opened where nothing else was in force."""
-    if isinstance(held, tuple):
-        return tuple(at_opening(one, n) for one in held)
-    return OPENED_WITH if held == OPENED and n is None else held
 
 
 # ---- What stations do write
@@ -547,7 +537,7 @@ def random_journals(report, options):
 
 
 class Witness(Driver):
-    """A random session that writes down from which unit on each n was in force."""
+    """A random session that writes down from which unit on each n was in force as a unit came."""
 
     def __init__(self, seed):
         super().__init__(seed)
@@ -559,13 +549,8 @@ class Witness(Driver):
         if self.station and n is None:
             self.ns.append((1, self.station.n))
         elif self.station and self.station.last > last:
-            self.note(last + 1, n)  # a jump is made under the plan before it, and its unit comes under the plan after it
-            self.note(self.station.last, self.station.n)
+            self.ns.append((last + 1, n))
         return answer
-
-    def note(self, unit, n):
-        if self.ns[-1][1] != n:
-            self.ns.append((unit, n))
 
     def whole_journal(self):
         """Every event of the session: the model's queue has room for all of them."""
@@ -582,11 +567,10 @@ class Witness(Driver):
         return wrong, len(known) - len(wrong)
 
     def within(self, first, last, held):
-        """Whether every n in force at these units is one that is told."""
+        """Whether every n in force at these units is the one that is told."""
         ends = [unit - 1 for unit, _ in self.ns[1:]] + [self.station.last]
         in_force = {n for (unit, n), end in zip(self.ns, ends) if unit <= last and end >= first}
-        told = held if isinstance(held, tuple) else (held,)
-        return in_force <= {self.ns[0][1] if n == OPENED else n for n in told}
+        return in_force == {self.ns[0][1] if held == OPENED else held}
 
 
 def with_markers(entries, chosen):

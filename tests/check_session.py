@@ -142,11 +142,10 @@ Summary
              [###0000.##00000]
              one sign a unit: # screening, 0 1 2 sampling level, . a missed stretch, ? not told
   frequency  1 to 3    one in 3
-             4 to 37   one in 2
-             38        one in 5
+             4 to 38   one in 2
              39 to 44  one in 3
-             [aaabbbb.caaaaaa]
-             one sign a unit: a one in 3, b one in 2, . a missed stretch, c one in 5
+             [aaabbbb.baaaaaa]
+             one sign a unit: a one in 3, b one in 2, . a missed stretch
 Every event from 1 to 9 was taken and none is missing.
 '''
 # The same session with another answer to one frame, and what is said of it.
@@ -182,6 +181,8 @@ BYTES = {
     'on demand in screening, then in sampling':
         '01 1 3 3 5 0 0 0>00 00 0 0 0, 1, 2, 09 1 2 2 2 0 0 1>00 00 0 0 0, 07>00 01 1 0 3, 07>00 0A 2 2 2, 3, 4, '
         '09 1 3 3 3 0 0 1>00 00 0 0 0, 07>00 02 3 4 1, 07>00 02 4 4 0, 07>00 0A 5 4 3, 07>00 00 0 0 0',
+    'a lower one waits on':
+        '01 1 3 3 5 0 0 0>00 00 0 0 0, 1, 2, 3, 07>00 01 1 0 3, 07>00 02 2 3 1, 07>00 00 0 0 0, 09 1 5 4 4 0 0 0>00 00 0 0 0',
     'at once in screening':
         '01 1 3 3 5 0 0 0>00 00 0 0 0, 1, 2, 09 1 5 4 4 0 0 0>00 00 0 0 0, 07>00 01 1 0 3, 07>00 0A 2 2 5, 3, 4, '
         '07>00 02 3 4 1, 07>00 00 0 0 0',
@@ -191,6 +192,7 @@ SHOWN = {
     'a lower one waits in sampling': ['a new plan takes force: one in 5', 'frequency  1 to 3  one in 3'],
     'on demand in screening, then in sampling':
         ['one in 2', 'change on demand to CSP-1 n 3 i 3 S 3: at once', 'frequency  1 to 2  one in 3', '3 to 4  one in 2'],
+    'a lower one waits on': ['lower, waits for the return to screening', '  waiting    CSP-1 n 5 i 4 S 4\n'],
     'at once in screening': ['one in 5', 'frequency  1 to 2  one in 3', '3 to 4  one in 5'],
 }
 # What is said of accepted changes in random sessions, each once or more: whether n is the new one before and after the call.
@@ -336,11 +338,8 @@ def changes(report):
 
 
 def after_a_jump(report):
-    """A jump's unit came under the plan that the jump took up, unless a change on its result may have taken it up."""
-    for on_result, parts in (
-        (False, [(1, 8, 'one in 3'), (9, 11, 'one in 5')]),
-        (True, [(1, 8, 'one in 3'), (9, 9, 'one in 3 or one in 5'), (10, 11, 'one in 5')]),
-    ):
+    """A jump's unit came under the plan before, whether the jump or a change on that unit's result took up the next."""
+    for on_result in (False, True):
         script = Script()
         script.open(model.CSP_1, 3, 3)
         script.good(3)
@@ -353,6 +352,7 @@ def after_a_jump(report):
         script.units(2)
         script.take_all()
         told = heard_of(script.text(), script.expected())[0].journal.frequencies.labelled(11, [])
+        parts = [(1, 9, 'one in 3'), (10, 11, 'one in 5')]
         report.check(told == parts, f'bin/session after a jump and a change says: {told}')
 
 
@@ -406,6 +406,9 @@ def random_sessions(report, options):
         told += against_model(report, at, witness, session, said.splitlines()[-1])
         caught += one_wrong_answer(report, at, witness, text)
         said_of_changes.update(changes_said(report, at, witness, text, said))
+        waiting = session.waiting()
+        waits = waiting is None or waiting == calls.plan(*model.waiting_plan(witness.station))
+        report.check(waits, f'random session {at} has the wrong plan waiting: {waiting}')
         wrong, _ = witness.judge(session.journal.frequencies.stretches)
         report.check(not wrong, f'random session {at} has the wrong frequency: {wrong[:2]}')
     report.reached(said_of_changes, SAID_OF_CHANGES)

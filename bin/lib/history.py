@@ -39,7 +39,7 @@ class Due:
 
 
 class History:
-    """`asked`: the units after which a change of plan was taken, where the calls are known; None where they are not."""
+    """`asked`: the n of each change of plan that was taken, where the calls are known; None where they are not."""
 
     def __init__(self, asked=None):
         self.asked = asked

@@ -8,7 +8,7 @@ IMPOSSIBLE = 'no station could write this: '
 
 
 class Journal:
-    """What the entries so far have told. `asked`: the units after which a change of plan was taken, where that is known."""
+    """What the entries so far have told. `asked`: the n of each change of plan that was taken, where that is known."""
 
     def __init__(self, asked=None):
         self.last = 0          # the highest number told or named

@@ -185,6 +185,7 @@ class Session:
         self.phases = Phases()
         self.plan = None
         self.plans = Plans()
+        self.waits = None     # the plan that waits, unless an untold event has taken it up
         self.limit = 0
         self.calls = Counter()
         self.refusals = Counter()
@@ -251,6 +252,8 @@ class Session:
         """A take that tells an entry."""
         before = self.journal.history.phase
         fault = self.journal.hear(at, kind, number, unit, value)
+        if fault or kind in (GAP, PLAN):
+            self.waits = None
         if fault or kind == GAP:
             self.raised.lose()
         if fault is None and kind == GAP:
@@ -329,7 +332,8 @@ class Session:
         _, n, i, *_, demanded = said
         does, in_words = self.plans.change(*self.in_force(), n, i, demanded)
         if does != SAME:
-            self.journal.asked.add(self.tally.last)
+            self.waits = calls.plan(*said[:-1]) if does == WAITS else None
+            self.journal.asked.add(n)
             self.raised.asked.append((n, self.tally.last))
         if does == AT_ONCE:
             self.raised.surely(PLAN, self.tally.last, n)
@@ -342,6 +346,10 @@ class Session:
         self.raised.emptied(self.journal.last)
         self.all_told()
         return 'take: nothing to tell'
+
+    def waiting(self):
+        """The plan that waits, where that is certain."""
+        return self.waits if self.empty and not self.raised.more else None
 
     def in_force(self):
         """The n and the phase in force, where every event has been told and tells them; None where not."""

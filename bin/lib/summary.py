@@ -20,6 +20,7 @@ def lines(session):
         parts += [('dropped', dropped(session))] if session.gaps else []
         parts += [('phases', phase_lines(session))] if session.tally.last else []
         parts += [('frequency', session.frequencies())] if session.tally.last and session.journal.asked else []
+        parts += [('waiting', [session.waiting()])] if session.waiting() else []
     told = ['Summary']
     for label, texts in parts:
         told += [f'  {label if at == 0 else "":<{LABEL}}{text}' for at, text in enumerate(texts)]
