@@ -109,9 +109,9 @@ fn sound_screening(p: Plan, t: Tally, c: Screening) -> bool
 {
     sound_need(p, c.need)
         & (c.run < c.need)
-        & (c.run <= c.screened)
-        & ((c.screened as u64) + counted(t.owed) <= (t.last as u64))
         & (c.run <= c.unrecalled)
+        & (c.unrecalled <= c.screened)
+        & ((c.screened as u64) + counted(t.owed) <= (t.last as u64))
         & (c.unrecalled <= t.conforming)
 }
 

@@ -139,7 +139,7 @@ pub fn after_find(phase: Phase) -> Phase
         Phase::Screen(c) => Phase::Screen(Screening {
             need: c.need,
             run: 0,
-            screened: 0,
+            screened: c.screened,
             unrecalled: c.unrecalled - 1,
         }),
         Phase::Sample(m) => Phase::Sample(m),
