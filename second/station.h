@@ -1,4 +1,5 @@
-/* The station of document 01, with the change of plan of document 02, W1. */
+/* The station of document 01, with W1 and W2 of document 02: a change of plan,
+   and a check find that leaves screened as it is. */
 #ifndef STATION_H
 #define STATION_H
 
