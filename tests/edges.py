@@ -90,11 +90,11 @@ def screening_clauses():
     yield 'need is i or x', [CSP_V], SCREENING, dict(need=3), dict(need=4)
     yield 'run below need', ALL, SCREENING, dict(run=4, unrecalled=5), dict(run=5, unrecalled=5)
     yield 'run below need x', [CSP_V], SCREENING, dict(need=3), dict(need=3, run=3)
-    yield 'run to screened', ALL, SCREENING, dict(screened=2), dict(screened=1)
     yield 'screened to last', ALL, SCREENING, dict(screened=16), dict(screened=17)
     yield 'screened to last less owed', ALL, SCREENING, dict(screened=16, **OWED), dict(screened=17, **OWED)
     yield 'run to unrecalled', ALL, SCREENING, dict(unrecalled=2), dict(unrecalled=1)
-    yield 'unrecalled to conforming', ALL, SCREENING, dict(unrecalled=7), dict(unrecalled=8)
+    yield 'unrecalled to screened', ALL, SCREENING, dict(unrecalled=6), dict(unrecalled=7)
+    yield 'unrecalled to conforming', ALL, SCREENING, dict(unrecalled=7, screened=9), dict(unrecalled=8, screened=9)
 
 
 def sampling_clauses():
