@@ -17,8 +17,8 @@ from report import SHOWN, cut, save
 
 BATCH_BYTES = 8_000_000
 KINDS = {
-    'sound': 2_000, 'willing': 3_000, 'changes': 2_000, 'waiters': 1_000, 'damaged': 2_000, 'begun': 500, 'chance': 500,
-    'opens': 500, 'stacked': 3_000, 'other_rooms': 250, 'rooms': 1,
+    'sound': 2_000, 'willing': 3_000, 'changes': 2_000, 'waiters': 1_000, 'damaged': 2_000, 'begun': 500, 'recalls': 500,
+    'chance': 500, 'opens': 500, 'stacked': 3_000, 'other_rooms': 250, 'rooms': 1,
 }
 NAMES = ('refusal', 'kind', 'number', 'unit', 'value', *FIELDS)
 # Any generator state and either way of hearing are sound, and another C is refused 1: damage there breaks no rule.
@@ -122,7 +122,9 @@ def goals():
     sides = [f'edge {clause}: {number}' for clause, *_ in clauses() for number in (0, 2)]
     sides += [f'edge {name}: 0' for name, _ in between_blocks()]
     limits = [f'{CALLS[call]} at {limit}' for call, limit in turns]
-    return [*numbers, *by_call, *orders(), *fields, *waiters, *sides, *probes.begun_goals(), *limits, *CHANGES, *CHANGES_REFUSED]
+    recalls = ['unrecalled below screened: 0', 'unrecalled at screened: 0', 'unrecalled above screened: 2']
+    records = [*fields, *waiters, *sides, *probes.begun_goals(), *recalls]
+    return [*numbers, *by_call, *orders(), *records, *limits, *CHANGES, *CHANGES_REFUSED]
 
 
 def orders():

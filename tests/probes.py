@@ -96,6 +96,7 @@ class Probes(Records):
                 made.arguments = [self.random.randrange(2)]
             if made.call == FIND and made.st.phase == SCREENING and made.st.conforming:
                 made.st.unrecalled = max(made.st.unrecalled, 1)
+                made.st.screened = max(made.st.screened, 1)
             if made.call == CHANGE:
                 made.arguments[:6] = self.plan_beside(made.st, *self.random.choice(ALLOWED))
             if self.random.random() < 0.3:
@@ -143,6 +144,13 @@ class Probes(Records):
             room = self.random.choice(SMALL_ROOMS)
             st = self.first_in_block(room)
             yield self.request(begun_as(st.type, st.level, st.chosen == 0), self.any_call(), st, self.memory(room))
+
+    def recalls(self, count):
+        """Records in screening with about as many units left to recall as were screened."""
+        for _ in range(count):
+            room = self.random.choice(SMALL_ROOMS)
+            st = self.left_to_recall(room)
+            yield self.request(recalls_as(st), self.any_call(), st, self.memory(room))
 
     def chance(self, count):
         """Records of chance words, mostly with a memory that fits."""
@@ -280,6 +288,12 @@ def begun_goals():
             yield f'{begun_as(type, level, False)}: {2 if told else 0}'
 
 
+def recalls_as(st):
+    """The name of such a record."""
+    above = st.unrecalled - st.screened
+    return f'unrecalled {"below" if above < 0 else "above" if above else "at"} screened'
+
+
 def damaged_as(st, field):
     """A word of a waiting plan is one thing, and a word where no plan waits another."""
     none_waits = field in WAITING_FIELDS and model.waiting_plan(st) == model.NO_PLAN
@@ -294,7 +308,8 @@ def change_seen(made, refusal):
 
 LIMITS = (
     *(f'next {number:,}' for number in range(EVENT_LIMIT - 3, EVENT_LIMIT + 2)),
-    'last at its limit', 'run one short of need', 'need x', 'screened one short of S', 'screened at S',
+    'last at its limit', 'run one short of need', 'need x', 'screened one short of S', 'screened at S', 'screened above S',
+    'one left to recall', 'unrecalled at screened', 'unrecalled at conforming', 'S between unrecalled and screened',
     'row one short of i', 'row at i', 'watch one short of i', 'level 2', 'a level begins',
     'queue empty', 'queue full', 'queue one short of full', 'gap', 'silent at its most',
     'a plan waiting in screening', 'a plan waiting in sampling', 'a plan waiting one step off',
@@ -314,6 +329,11 @@ def limits(st):
         'need x': screening and st.need < st.i,
         'screened one short of S': screening and st.screened == st.S - 1,
         'screened at S': screening and st.screened == st.S > 0,
+        'screened above S': screening and st.screened > st.S > 0,
+        'one left to recall': st.unrecalled == 1,
+        'unrecalled at screened': st.unrecalled == st.screened > 0,
+        'unrecalled at conforming': st.unrecalled == st.conforming > 0,
+        'S between unrecalled and screened': 0 < st.unrecalled < st.S <= st.screened,
         'row one short of i': sampling and st.row == st.i - 1,
         'row at i': sampling and st.row == st.i,
         'watch one short of i': st.watch and st.watched == st.i - 1,

@@ -105,7 +105,17 @@ class Records:
         if st.run < st.S - 1 <= st.last - st.owed and self.random.random() < 0.3:
             st.screened = st.S - self.random.randrange(2)
             st.screened = min(st.screened, st.last - st.owed)
-        st.unrecalled = self.pick(st.run, st.conforming)
+        st.unrecalled = self.pick(st.run, min(st.conforming, st.screened))
+
+    def left_to_recall(self, room):
+        """In screening, with one unit less left to recall than were screened, as many, or one more: then the record is not sound."""
+        st = self.made_up(room)
+        while st.phase != model.SCREENING or not st.conforming:
+            st = self.made_up(room)
+        st.screened = self.pick(0, st.conforming - 1)
+        st.unrecalled = max(0, st.screened + self.random.choice((-1, 0, 1)))
+        st.run = self.pick(0, min(st.need - 1, st.unrecalled, st.screened))
+        return st
 
     def sampling(self, st):
         st.phase = model.SAMPLING
