@@ -14,6 +14,7 @@ PROFILES = {
     'quiet': (20, 1, 2, 2, 2, 60, 4, 2, 1, 1),
     'rough': (50, 1, 10, 10, 15, 5, 10, 5, 2, 2),
     'changing': (60, 5, 2, 2, 3, 3, 10, 10, 1, 1),
+    'checked': (60, 1, 1, 1, 20, 2, 10, 2, 1, 1),
     'hostile': (40, 1, 3, 3, 5, 5, 10, 5, 20, 20),
 }
 # The new n and i beside those in force: below (-1), equal (0) or above (1).
@@ -91,7 +92,7 @@ class Driver(Script):
         if waits(st):
             return 0.3 if st.phase == SAMPLING else 0.0
         unwatched = st.type == CSP_2 and st.phase == SAMPLING and not st.watch
-        return 0.2 if st.level or self.long_row() or self.reduced() or unwatched else 0.0
+        return 0.2 if st.level or self.long_row() or self.reduced() or unwatched or self.checked() else 0.0
 
     def wish(self):
         """A change where one seldom falls by itself, or a second one."""
@@ -109,6 +110,10 @@ class Driver(Script):
 
     def reduced(self):
         return self.station.phase == SCREENING and self.station.need < self.station.i
+
+    def checked(self):
+        """A find in this sequence, and LONG at the next defect."""
+        return self.watcher.finds.latest and self.station.screened + 1 >= self.station.S > 0
 
     def recallable(self):
         """A find under need x seldom comes by itself."""

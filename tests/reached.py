@@ -73,6 +73,7 @@ def why_not_in_range(type, n, i, S, x, N):
 
 # Where a waiting plan is taken up, and what looks like such a place and is none.
 PLACES = ('the shift to sampling', 'a reverting defect', 'a missed stretch', 'an interrupt')
+ON_DEMAND = 'a change on demand'
 NO_PLACES = (
     'unit in screening', 'jump in screening', 'interrupt in screening', 'find', 'defect in screening', 'tick in screening',
     'unit in sampling', 'a level begins', 'watch starts', 'watch ends', 'tick in sampling',
@@ -93,7 +94,11 @@ GOALS = (
     'period ends', 'last unit number', 'LONG at S', 'LONG above S', 'defect one below S',
     'jump in screening', 'jump in sampling', 'jump at first', 'jump cuts a run', 'jump after i good samples',
     'interrupt in screening', 'interrupt in sampling', 'interrupt after i good samples',
-    'find', 'find in sampling', 'find with none left', 'find while owed',
+    'find', 'find in sampling', 'find with none left', 'find while owed', 'find after a find', 'find at S', 'find above S',
+    'LONG at the first defect after a find', 'LONG at a later defect after a find', 'LONG after a find, none left to recall',
+    'LONG after a find and a change at once', *(f'LONG after a find under {plan}' for plan in CHANGEABLE),
+    'defect below S after a find', 'defect after a find under CSP-F',
+    *(f'no LONG after a find and {place}' for place in (*PLACES[1:], ON_DEMAND)),
     'silence begins', 'silence goes on', 'tick after a unit', 'tick while owed',
     'gap begins', 'gap widens', 'two drops in one call', 'marker of more than two',
     *(f'taken {kind}' for kind in KINDS.values()), 'nothing to take',
@@ -114,6 +119,50 @@ GOALS = (
 )
 
 
+class Finds:
+    """The finds of a screening sequence: units screened before a find count in LONG, those of the sequence before do not."""
+
+    def __init__(self):
+        self.latest = None    # the record at the latest find of this sequence
+        self.defects = 0      # how many came after it
+        self.changed = False  # whether a change at once did
+        self.left = 0         # screened at the end of the sequence before, where a find was in it
+        self.place = ''       # what began this one
+
+    def find(self, before):
+        """A find raises no LONG, however many are screened."""
+        if self.latest and self.latest.last == before.last:
+            yield 'find after a find'
+        if before.S and before.screened >= before.S:
+            yield 'find at S' if before.screened == before.S else 'find above S'
+        self.latest, self.defects, self.changed = before, 0, False
+
+    def ended(self, screened):
+        self.left = screened if self.latest else 0
+        self.latest = None
+
+    def defect(self, after):
+        if self.latest:
+            self.defects += 1
+            yield from self.after_a_find(after)
+        elif after.screened < after.S <= after.screened + self.left:
+            yield f'no LONG after a find and {self.place}'
+
+    def after_a_find(self, after):
+        """LONG is told apart where the units since the find would not have raised it."""
+        if after.type == CSP_F:
+            yield 'defect after a find under CSP-F'
+        elif after.screened < after.S:
+            yield 'defect below S after a find'
+        elif after.screened - self.latest.screened < after.S:
+            yield f'LONG at {"the first" if self.defects == 1 else "a later"} defect after a find'
+            yield f'LONG after a find under {PLANS[after.type]}'
+            if after.unrecalled == 0:
+                yield 'LONG after a find, none left to recall'
+            if self.changed:
+                yield 'LONG after a find and a change at once'
+
+
 class Watcher:
     """Looks at the record before and after each frame."""
 
@@ -121,6 +170,7 @@ class Watcher:
         self.count = Counter()
         self.watches = 0
         self.old_S = 0
+        self.finds = Finds()
         self.calls = {
             1: self.opened, 2: self.unit, 3: self.result, 4: self.interrupt, 5: self.find, 6: self.tick, 7: self.take,
             8: self.opened, CHANGE: self.changed,
@@ -216,10 +266,12 @@ class Watcher:
             self.reach('defect one below S' if above < 0 else 'LONG at S' if above == 0 else 'LONG above S')
         if self.old_S and (after.screened < self.old_S) != (after.screened < after.S):
             self.reach('no LONG by the new S alone' if after.screened < after.S else 'LONG by the new S alone')
+        self.reach(*self.finds.defect(after))
         self.no_place(before, 'defect in screening')
 
     def sampling_begins(self, before, after):
         self.watches = self.old_S = 0
+        self.finds.ended(before.screened + 1)
         self.reach(f'{PLANS[after.type]} sampling')
         if before.need < before.i:
             self.reach('need x cleared')
@@ -245,6 +297,7 @@ class Watcher:
             self.no_place(before, 'watch ends')
 
     def reverted(self, before, after):
+        self.sequence(before, 'a reverting defect')
         self.reach(f'{PLANS[before.type]} reverts')
         if before.level:
             self.reach(f'revert from level {before.level}')
@@ -272,6 +325,7 @@ class Watcher:
         self.reach('find')
         if before.need < before.i:
             self.reach('find under need x')
+        self.reach(*self.finds.find(before))
         self.no_place(before, 'find')
 
     def tick(self, frame, before, answer, after):
@@ -318,6 +372,7 @@ class Watcher:
 
     def on_demand(self, before):
         self.old_S = 0
+        self.sequence(before, ON_DEMAND)
         if before.watch:
             self.reach('change on demand, watch on')
         if before.level:
@@ -331,6 +386,7 @@ class Watcher:
     def at_once_in_screening(self, before):
         """The S before it is kept until sampling starts: a defect that it would judge otherwise is told apart."""
         self.old_S = before.S
+        self.finds.changed = True
         if before.run:
             self.reach('change at once keeps a run')
         if before.need < before.i:
@@ -348,6 +404,7 @@ class Watcher:
 
     def new_sequence(self, before, turn, place):
         """A jump or an interrupt: a waiting plan is taken up in sampling and waits on in screening."""
+        self.sequence(before, place)
         if not waits(before):
             return
         if before.phase == SCREENING:
@@ -356,6 +413,12 @@ class Watcher:
         self.taken_up(before, place)
         if before.type == CSP_V and before.row == before.i:
             self.reach(f'{turn} to the new i after i good samples')
+
+    def sequence(self, before, place):
+        """A new one, from either phase: in sampling the one before has ended already."""
+        if before.phase == SCREENING:
+            self.finds.ended(before.screened)
+        self.finds.place = place
 
     def taken_up(self, before, place):
         self.reach(f'taken up at {place} under {PLANS[before.type]}')
