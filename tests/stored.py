@@ -254,12 +254,18 @@ def csp_f_period_end(s):
 
 @session
 def csp_f_short_period(s):
-    """CSP-F: i above N: every unit is inspected; S = 0 raises no alarm, however long the screening."""
+    """CSP-F: i above N: every unit is inspected; S = 0 raises no alarm, however long the screening, with finds and without."""
     s.open(CSP_F, 2, 10_000, N=30)
     s.good(3)
-    for _ in range(8):
+    for _ in range(4):
         s.bad()
         s.good(2)
+    s.take_all()
+    for _ in range(4):
+        s.find()
+        s.bad()
+        s.good(2)
+    s.take_all()
     s.units(3)
     s.unit()
     s.take_all()
@@ -553,7 +559,7 @@ def finds_refused(s):
 
 @session
 def long_at_every_defect(s):
-    """S = 4: LONG comes at each defect from the 4th unit screened on, and starts nothing anew; a find sets screened to 0."""
+    """S = 4: LONG comes at each defect from the 4th unit screened on, and starts nothing anew; nor does a check find."""
     s.open(CSP_1, 2, 3, 4)
     s.bad(3)
     s.take_all()
@@ -1403,6 +1409,135 @@ def change_ill_formed(s):
     s.change(*plan)
     s.result(0)
     s.good()
+    s.take_all()
+
+
+# ---- Screened units after a check find: document 02, W2
+
+@session
+def long_after_a_find(s):
+    """S = 4: LONG comes at the first defect after a check find and counts the units before it; finds alone raise none."""
+    s.open(CSP_1, 3, 3, 4)
+    s.good(2)
+    s.find()
+    # one below S
+    s.bad()
+    s.take_all()
+    # a find with 5 units screened, and the first defect after it
+    s.good(2)
+    s.find()
+    s.take_all()
+    s.bad()
+    s.take_all()
+    # finds in a row, until none is left to recall; the next defect is the 7th unit screened
+    s.find()
+    s.find()
+    s.find()
+    s.take_all()
+    s.bad()
+    s.take_all()
+
+
+@session
+def long_and_a_diligent_inspector(s):
+    """Letter A, AQL 10.0: a check find after every four good units, one short of i: LONG at each defect from the 12th unit on."""
+    s.table(CSP_T, A, 10_000)
+    for _ in range(4):
+        s.good(4)
+        s.find()
+        s.good(4)
+        s.find()
+        s.bad()
+        s.take_all()
+    s.good(4)
+    s.take_all()
+    s.good()
+    s.take_all()
+
+
+@session
+def find_and_a_new_sequence(s):
+    """S = 4: after a check find a jump, an interrupt and a return from sampling start screened at 0; LONG at the 4th from there."""
+    s.open(CSP_1, 2, 3, 4)
+
+    def checked():
+        s.good(2)
+        s.find()
+        s.good(2)
+
+    checked()
+    s.unit(s.station.last + 2)
+    s.result(1)
+    s.find()
+    s.take_all()
+    checked()
+    s.interrupt()
+    s.find()
+    s.bad()
+    s.take_all()
+    checked()
+    s.good()
+    s.bad()
+    s.find()
+    s.bad(3)
+    s.take_all()
+    # the fourth of the new sequence
+    s.bad()
+    s.take_all()
+
+
+@session
+def find_under_need_x(s):
+    """CSP-V: a check find keeps need x of 2; a defect after two finds is the third unit screened: LONG, and need i of 3."""
+    s.open(CSP_V, 2, 3, 3, x=2)
+    s.good(6)
+    s.bad()
+    s.good()
+    s.find()
+    s.good(2)
+    s.take_all()
+    s.good(3)
+    s.bad()
+    s.take_all()
+    s.good()
+    s.find()
+    s.good()
+    s.find()
+    s.take_all()
+    s.bad()
+    s.take_all()
+    s.good(2)
+    s.take_all()
+    s.good()
+    s.take_all()
+
+
+@session
+def find_and_a_change(s):
+    """Change: after a find the new S judges all units screened, those before the find too; on demand they begin again."""
+    s.open(CSP_1, 3, 3, 50)
+    s.good(2)
+    s.find()
+    s.good(2)
+    s.change(CSP_1, 5, 4, 5)
+    s.bad()
+    s.take_all()
+    # all that is not recalled is left to find, and a higher S judges what stayed: 6 of 7, and 7
+    s.find()
+    s.change(CSP_1, 6, 5, 7)
+    s.find()
+    s.bad()
+    s.take_all()
+    s.bad()
+    s.find()
+    s.find()
+    s.take_all()
+    # on demand: the 7 are gone, and there is nothing to find
+    s.change(CSP_1, 2, 2, demand=1)
+    s.find()
+    s.bad()
+    s.take_all()
+    s.bad()
     s.take_all()
 
 
