@@ -1545,7 +1545,7 @@ def find_and_a_change(s):
 
 @session
 def pinned_csp_1(s):
-    """Pinned. CSP-1: each kind of event, a new sequence by each cause in either phase, two alarms, two gaps."""
+    """Pinned. CSP-1: each kind of event, a new sequence by each cause in either phase, alarms after finds, two gaps."""
     s.open(CSP_1, 5, 3, 4, seed=0x1235C004)
     # ticks before any unit, and one that the first unit breaks; there is nothing to find, and no result is owed
     s.tick(2)
@@ -1566,18 +1566,20 @@ def pinned_csp_1(s):
     # an interrupt: INTERRUPT alone, nothing is left to find, and the run begins again
     s.interrupt()
     s.find()
+    # S is 4, and a find leaves screened as it is: no LONG at the third unit screened, one at the fourth
     s.good(2)
-    # a find sets screened to 0: the next two defects make 2, not 4
     s.find()
     s.bad(2)
+    # two finds after the fifth raise CHECK alone, and then nothing is left to find
+    s.good()
+    s.find()
     s.find()
     s.find()
     s.take_all()
-    # S is 4: no LONG at the third unit screened, one at the fourth and one at the sixth
-    s.bad(2)
+    # the first defect after them is the seventh unit screened, the next the tenth
     s.good()
     s.bad()
-    s.good()
+    s.good(2)
     s.bad()
     s.take_all()
     # three good ones in a row start sampling: three blocks of 5, and three units of the fourth
@@ -1633,10 +1635,12 @@ def pinned_csp_2(s):
     s.find()
     s.find()
     s.find()
-    # S is 3: the finds set screened to 0; LONG at the third unit and at the fourth
-    s.bad(2)
+    # S is 3: the finds at the third unit screened raise no LONG and set nothing back: it comes at the fourth, fifth and seventh
+    s.bad()
     s.take_all()
-    s.bad(2)
+    s.bad()
+    s.good()
+    s.bad()
     s.take_all()
     # sampling; a defect starts a watch, its block goes on, and two conforming samples end the watch
     s.good(2)
