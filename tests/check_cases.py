@@ -1,5 +1,5 @@
 """The model against the documents' own numbers: document 01's example, its nine cases and what it says of the tables, and
-the sentences of document 02 on a change of plan.
+the sentences of document 02 on a change of plan and on a check find.
 
 Every other part compares with the model, so the model must have been held to the document first.
 """
@@ -7,8 +7,8 @@ Every other part compares with the model, so the model must have been held to th
 import model
 from check_stored import FOLDER
 from model import (
-    CSP_1, CSP_2, CSP_F, CSP_T, CSP_V, DONE, INTERRUPT, LONG, PHASE, PLAN, SAMPLING, SCREENING, SILENCE, START, TABLE_III_A_4, TABLE_V,
-    refused,
+    CHECK, CSP_1, CSP_2, CSP_F, CSP_T, CSP_V, DEFECT, DONE, INTERRUPT, LONG, PHASE, PLAN, SAMPLING, SCREENING, SILENCE, START,
+    TABLE_III_A_4, TABLE_V, refused,
 )
 from script import Script
 
@@ -36,12 +36,14 @@ def check(report, pair, options):
     for number, case in enumerate(cases, 1):
         for at, holds in enumerate(case(), 1):
             report.check(holds, f'the model breaks document 01\'s case {number}, at its check {at}')
-    for case in CHANGES:
-        for at, holds in enumerate(case(), 1):
-            report.check(holds, f'the model breaks W1 in {case.__name__}, at its check {at}')
+    for request, requested in (('W1', CHANGES), ('W2', FINDS)):
+        for case in requested:
+            for at, holds in enumerate(case(), 1):
+                report.check(holds, f'the model breaks {request} in {case.__name__}, at its check {at}')
     for law, holds in table_laws().items():
         report.check(holds, f'the model\'s tables: {law}')
-    return f'the example, {len(cases)} cases, {len(CHANGES)} changes of plan and {len(table_laws())} laws of the tables'
+    requests = f'{len(CHANGES)} changes of plan, {len(FINDS)} laws of a find'
+    return f'the example, {len(cases)} cases, {requests} and {len(table_laws())} laws of the tables'
 
 
 def opened(*plan, **more):
@@ -254,6 +256,80 @@ def plan_in_force(script):
 CHANGES = (
     waits_in_screening, waits_in_sampling, at_once_in_screening, at_once_in_sampling, on_demand, old_i_judges, equal_or_refused,
 )
+
+
+# ---- W2: screened units after a find
+
+def counts(script):
+    st = script.station
+    return st.need, st.run, st.screened, st.unrecalled
+
+
+def find_leaves_screened():
+    """A find sets run to 0 and leaves screened; unrecalled falls by 1, and need and the tallies stay."""
+    script = opened(CSP_V, 2, 4, x=3)
+    script.good(8)
+    script.bad()
+    script.good(2)
+    before = tallies(script)
+    yield counts(script) == (3, 2, 2, 2)
+    yield script.find() == DONE and counts(script) == (3, 0, 2, 1)
+    yield script.find() == DONE and counts(script) == (3, 0, 2, 0)
+    yield script.find() == refused(8) and counts(script) == (3, 0, 2, 0)
+    yield tallies(script) == before
+
+
+def alarm_follows():
+    """LONG counts the units before a find; it comes at the next defect, and never at a find."""
+    script = opened(CSP_1, 2, 3, 4)
+    script.good(2)
+    script.find()
+    script.bad()
+    yield last_event(script) == (DEFECT, 3, 0)
+    script.good()
+    script.find()
+    yield last_event(script) == (CHECK, 4, 0)
+    script.bad()
+    yield last_event(script) == (LONG, 5, 5)
+
+
+def new_sequence_counts_anew():
+    """A jump, an interrupt, a return and a change on demand set screened to 0 after a find, as they did."""
+    turns = (
+        lambda script: script.unit(script.station.last + 2),
+        lambda script: script.interrupt(),
+        lambda script: [script.good(), script.bad()],
+        lambda script: script.change(CSP_1, 3, 4, 4, demand=1),
+    )
+    for turn in turns:
+        script = opened(CSP_1, 2, 3, 4)
+        script.good(2)
+        script.find()
+        script.good(2)
+        turn(script)
+        yield counts(script) == (script.station.i, 0, 0, 0)
+
+
+def unrecalled_at_most_screened():
+    """In a sound record; every call on another gets 2."""
+    script = opened(CSP_1, 2, 3, 4)
+    script.good(2)
+    script.bad()
+    script.good()
+    yield counts(script) == (3, 1, 4, 3)
+    script.station.screened = 3
+    yield model.sound(script.station)
+    script.station.screened = 2
+    yield not model.sound(script.station)
+    yield script.find() == refused(2)
+
+
+def tallies(script):
+    st = script.station
+    return st.conforming, st.defective, st.passed, st.missed, st.owed, st.last
+
+
+FINDS = (find_leaves_screened, alarm_follows, new_sequence_counts_anew, unrecalled_at_most_screened)
 
 
 # ---- The tables
