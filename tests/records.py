@@ -108,7 +108,7 @@ class Records:
         st.unrecalled = self.pick(st.run, min(st.conforming, st.screened))
 
     def left_to_recall(self, room):
-        """In screening, with one unit less left to recall than were screened, as many, or one more: then the record is not sound."""
+        """In screening, with one unit less left to recall than were screened, as many, or one more, which is not sound."""
         st = self.made_up(room)
         while st.phase != model.SCREENING or not st.conforming:
             st = self.made_up(room)
