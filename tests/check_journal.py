@@ -116,6 +116,7 @@ OPEN = (START, 0, 5)
 SAMPLING = (OPEN, (PHASE, 5, 1))
 LEFT = (*SAMPLING, (PHASE, 14, 2))
 HIDDEN = ((MARKER, 0, 8),)
+TOLD_BY_LONG = (*HIDDEN, (DEFECT, 20, 0), (LONG, 20, 3))  # the sequence began after unit 17
 SPENT = ((MARKER, 0, 7_999_992), *((SILENCE, 1, count) for count in range(1, 6)), (INTERRUPT, 1, 0))  # the next is 7,999,999
 HISTORIES = {
     'a first event that is not START': ((), OPEN, (SILENCE, 0, 1), 'event 1 is START'),
@@ -166,9 +167,41 @@ HISTORIES = {
     'LONG where a later defect had none':
         ((OPEN, (DEFECT, 5, 0), (DEFECT, 7, 0), (INTERRUPT, 7, 0), (DEFECT, 12, 0)), (DEFECT, 13, 0), (LONG, 12, 5),
          'raised none'),
+    'LONG counted from a check find':
+        ((OPEN, (CHECK, 3, 0), (DEFECT, 8, 0)), (LONG, 8, 8), (LONG, 8, 5), '8 units came since the sequence began'),
+    'LONG counted from the last of many check finds':
+        ((OPEN, (CHECK, 1, 0), (CHECK, 4, 0), (DEFECT, 6, 0), (CHECK, 10, 0), (CHECK, 10, 0), (DEFECT, 15, 0)),
+         (LONG, 15, 15), (LONG, 15, 5), '15 units came'),
+    'LONG once, a check find, and then none':
+        ((OPEN, (DEFECT, 5, 0), (LONG, 5, 5), (CHECK, 6, 0), (DEFECT, 7, 0)), (LONG, 7, 7), (SILENCE, 7, 1), 'calls for LONG'),
+    'LONG where a defect after a check find had none':
+        ((OPEN, (DEFECT, 4, 0), (CHECK, 6, 0), (DEFECT, 9, 0), (INTERRUPT, 9, 0), (DEFECT, 14, 0), (DEFECT, 18, 0)),
+         (DEFECT, 19, 0), (LONG, 18, 9), 'a defect at 9 units screened raised none'),
+    'LONG at a check find': ((OPEN, (DEFECT, 5, 0), (LONG, 5, 5), (CHECK, 6, 0)), (CHECK, 6, 0), (LONG, 6, 6), 'no cause'),
+    'LONG counted from a check find behind a marker':
+        ((*HIDDEN, (CHECK, 20, 0), (DEFECT, 25, 0)), (LONG, 25, 6), (LONG, 25, 5), '6 units or more came'),
+    'LONG with fewer units than were recalled, behind a marker':
+        ((*HIDDEN, (CHECK, 20, 0), (CHECK, 20, 0), (DEFECT, 21, 0)), (LONG, 21, 3), (LONG, 21, 2), '3 units or more came'),
+    'LONG that forgets where LONG began, behind a marker':
+        ((*TOLD_BY_LONG, (CHECK, 22, 0), (DEFECT, 25, 0)), (LONG, 25, 8), (LONG, 25, 3), '8 units came'),
+    'LONG, a check find, and then none, behind a marker':
+        ((*TOLD_BY_LONG, (CHECK, 22, 0), (DEFECT, 25, 0)), (LONG, 25, 8), (SILENCE, 25, 1), 'calls for LONG'),
+    'LONG counted from a check find before PLAN':
+        ((OPEN, (CHECK, 2, 0), (PLAN, 3, 4), (DEFECT, 7, 0)), (LONG, 7, 7), (LONG, 7, 5), '7 units or 4 units came'),
+    'LONG counted from PLAN where a check find shows that units stayed':
+        ((OPEN, (PLAN, 2, 4), (CHECK, 2, 0), (DEFECT, 9, 0)), (LONG, 9, 9), (LONG, 9, 7), '9 units came'),
+    'LONG counted from PLAN where a result came behind it':
+        ((*SAMPLING, (MISSED, 7, 2), (PHASE, 9, 0), (PLAN, 9, 4), (DEFECT, 9, 0), (DEFECT, 14, 0)), (LONG, 14, 6),
+         (LONG, 14, 5), '6 units came'),
     'CHECK in sampling': (SAMPLING, (INTERRUPT, 9, 0), (CHECK, 9, 0), 'the phase is sampling'),
     'CHECK with nothing to recall': ((OPEN, (CHECK, 1, 0)), (CHECK, 2, 0), (CHECK, 1, 0), 'left to recall'),
     'CHECK of a defective unit': ((OPEN, (DEFECT, 1, 0)), (CHECK, 2, 0), (CHECK, 1, 0), 'left to recall'),
+    'CHECK with nothing to recall before PLAN or after':
+        ((OPEN, (DEFECT, 1, 0), (PLAN, 1, 4)), (CHECK, 2, 0), (CHECK, 1, 0), 'left to recall'),
+    'CHECK with nothing to recall since LONG began':
+        ((*TOLD_BY_LONG, (CHECK, 20, 0), (CHECK, 20, 0)), (CHECK, 21, 0), (CHECK, 20, 0), 'left to recall'),
+    'CHECK with nothing to recall since START, behind a marker':
+        ((*HIDDEN, (CHECK, 2, 0), (CHECK, 2, 0)), (CHECK, 3, 0), (CHECK, 2, 0), 'left to recall'),
     'a silence that starts at two': ((OPEN,), (SILENCE, 3, 1), (SILENCE, 3, 2), 'is 1 here'),
     'a silence that stands still': ((OPEN, (SILENCE, 3, 1)), (SILENCE, 3, 2), (SILENCE, 3, 1), 'is 2 here'),
     'a unit that was passed over by a jump': ((OPEN, (MISSED, 2, 3)), (SILENCE, 5, 1), (SILENCE, 4, 1), 'backwards'),
@@ -247,14 +280,22 @@ KNOWN = {
 MADE_POSSIBLE = (
     'a step of two levels', 'screening out of screening', 'LONG with no DEFECT', 'a silence that starts at two',
     'CHECK in sampling', 'two PLANs alike', 'a lower frequency in sampling than the last', 'PLAN at a level with no PHASE',
-    'PLAN before the PHASE of a jump', 'LONG once and then none', 'level 0 again and no PLAN',
+    'PLAN before the PHASE of a jump', 'LONG once and then none', 'LONG once, a check find, and then none',
+    'LONG, a check find, and then none, behind a marker', 'CHECK with nothing to recall since LONG began',
+    'level 0 again and no PLAN',
 )
 # What another plan makes possible: its own S and its own clearance number, told or hidden by a marker.
 UNDER_ANOTHER = {
     'LONG sooner': (OPEN, (DEFECT, 5, 0), (DEFECT, 7, 0), (PLAN, 7, 4), (INTERRUPT, 7, 0), (DEFECT, 13, 0), (LONG, 13, 6)),
     'LONG sooner, behind a marker':
         (OPEN, (DEFECT, 5, 0), (DEFECT, 7, 0), (MARKER, 0, 1), (INTERRUPT, 7, 0), (DEFECT, 13, 0), (LONG, 13, 6)),
+    'LONG sooner, behind a marker that hides where the sequence began':
+        (*HIDDEN, (DEFECT, 20, 0), (INTERRUPT, 20, 0), (DEFECT, 25, 0), (LONG, 25, 5)),
+    'LONG sooner than with the units from before a demand':
+        (OPEN, (PLAN, 2, 4), (DEFECT, 5, 0), (DEFECT, 8, 0), (INTERRUPT, 8, 0), (DEFECT, 12, 0), (DEFECT, 15, 0), (LONG, 15, 7)),
     'LONG no more': (OPEN, (DEFECT, 5, 0), (LONG, 5, 5), (PLAN, 5, 4), (DEFECT, 6, 0), (SILENCE, 6, 1)),
+    'LONG no more, after a check find':
+        (OPEN, (DEFECT, 5, 0), (LONG, 5, 5), (PLAN, 5, 4), (CHECK, 6, 0), (DEFECT, 7, 0), (SILENCE, 7, 1)),
     'LONG no more, behind a marker':
         (OPEN, (DEFECT, 5, 0), (LONG, 5, 5), (MARKER, 0, 1), (INTERRUPT, 5, 0), (DEFECT, 11, 0), (SILENCE, 11, 1)),
     'a shorter run': (OPEN, (PLAN, 0, 2), (PHASE, 1, 1)),
@@ -274,6 +315,8 @@ TAKEN_UP = {
     'lower, at once before the first unit': ((PLAN, 0, 5), (PHASE, 4, 1), [(1, 4, 5)]),
     'lower, at once, and LONG by the units before':
         ((DEFECT, 1, 0), (PLAN, 2, 5), (DEFECT, 4, 0), (LONG, 4, 4), [(1, 2, 3), (3, 4, 5)]),
+    'lower, at once, and LONG over a check find':
+        ((CHECK, 1, 0), (PLAN, 2, 5), (DEFECT, 4, 0), (LONG, 4, 4), [(1, 2, 3), (3, 4, 5)]),
     'lower, at a revert':
         ((PHASE, 3, 1), (DEFECT, 7, 1), (PHASE, 7, 0), (PLAN, 7, 5), (PHASE, 8, 1), [(1, 7, 3), (8, 8, 5)]),
     'lower, at an interrupt':
@@ -282,6 +325,8 @@ TAKEN_UP = {
         ((PHASE, 3, 1), (MISSED, 6, 2), (PHASE, 8, 0), (PLAN, 8, 5), (PHASE, 11, 1), [(1, 8, 3), (9, 11, 5)]),
     'on demand, higher, in screening': ((PLAN, 2, 2), (PHASE, 4, 1), [(1, 2, 3), (3, 4, 2)]),
     'on demand, lower, in screening': ((PLAN, 2, 5), (PHASE, 6, 1), [(1, 2, 3), (3, 6, 5)]),
+    'on demand, lower, in screening, and LONG over a later check find':
+        ((CHECK, 1, 0), (PLAN, 2, 5), (CHECK, 3, 0), (DEFECT, 7, 0), (LONG, 7, 5), [(1, 2, 3), (3, 7, 5)]),
     'on demand, higher, in sampling':
         ((PHASE, 3, 1), (PHASE, 9, 0), (PLAN, 9, 2), (PHASE, 11, 1), [(1, 9, 3), (10, 11, 2)]),
     'on demand, lower, in sampling': ((PHASE, 3, 1), (PHASE, 9, 0), (PLAN, 9, 5), (PHASE, 13, 1), [(1, 9, 3), (10, 13, 5)]),

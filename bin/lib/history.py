@@ -4,7 +4,8 @@ A History hears the entries in their order and says of each why no station could
 neither the plan's type nor S, and n only where it is told the plan that was opened or a PLAN has come; it draws on what
 the entries tell and on nothing else. Whatever a marker or a hole may hide it forgets, so that it never calls impossible
 what a station can write. A change of plan leaves much open: in screening the same PLAN may come at once, and run and
-screened go on, or on demand, and they start anew. So where they count from is one of several units.
+screened go on, or on demand, and they start anew. So where they count from is one of several units. A check find starts
+run anew and leaves screened: LONG counts every unit since the sequence began, and so tells where it did.
 """
 
 from lib.calls import MOST_CLEARANCE, MOST_UNITS
@@ -36,6 +37,25 @@ class Due:
 
     def __init__(self, kind, unit, certain, cause):
         self.kind, self.unit, self.certain, self.cause = kind, unit, certain, cause
+
+
+class Sequence:
+    """A screening sequence as it may be: it began after a unit from `earliest` to `latest`."""
+
+    def __init__(self, earliest, latest):
+        self.earliest, self.latest = earliest, latest
+        self.spent = 0  # its units that were told to be defective or recalled, each of them another one
+
+    def spend(self, unit):
+        """One unit more is spent, up to this one, so it began before as many. Whether it can have."""
+        self.spent += 1
+        self.latest = min(self.latest, unit - self.spent)
+        return self.earliest <= self.latest
+
+    def units(self, last):
+        """How many units it has up to this one, in words."""
+        least = counted(last - self.latest, 'unit')
+        return least if self.earliest == self.latest else f'{least} or more'
 
 
 class History:
@@ -73,9 +93,7 @@ class History:
 
     def forget_screening(self):
         self.run_from = ()             # the units after which run may count, none where that is not known
-        self.screened_from = ()        # the units after which screened may count
-        self.sequence = None           # the unit after which the screening sequence began
-        self.spent = 0                 # units of the sequence that were defective or recalled
+        self.sequences = [Sequence(0, MOST_UNITS)]  # one of these is the screening sequence
         self.reduced = True            # need may be below i, as under CSP-V
 
     # ---- Hearing
@@ -121,8 +139,8 @@ class History:
         """What it shows that a defect was followed by neither LONG nor PHASE."""
         if due is None:
             return
-        if due.kind == LONG and self.screened_from:
-            self.quiet_at = max(self.quiet_at, due.unit - max(self.screened_from))
+        if due.kind == LONG:
+            self.quiet_at = max(self.quiet_at, self.least_screened(due.unit))
         elif due.cause == 'DEFECT' and due.kind == PHASE:
             self.settle_type(CSP_2)
 
@@ -152,8 +170,16 @@ class History:
     def screen(self, unit, reduced=False):
         """A screening sequence starts after this unit."""
         self.phase, self.level_from = SCREENING, None
-        self.run_from = self.screened_from = (unit,)
-        self.sequence, self.spent, self.reduced = unit, 0, reduced
+        self.run_from, self.sequences, self.reduced = (unit,), [Sequence(unit, unit)], reduced
+
+    def least_screened(self, unit):
+        """What screened is at least, this unit counted."""
+        return unit - max(sequence.latest for sequence in self.sequences)
+
+    def spend(self, unit):
+        """A unit of the sequence was defective or recalled: what had none left for it is not the sequence."""
+        self.sequences = [sequence for sequence in self.sequences if sequence.spend(unit)]
+        demand(self.sequences, 'no screened unit is left to recall')
 
     # ---- One rule for each kind
 
@@ -243,14 +269,20 @@ class History:
             self.at(unit, settles=True, handled=True)
             self.defect_in_screening(unit)
         demand(0 < value <= unit, 'it counts no unit, or more than have come')
-        counts = [unit - began for began in self.screened_from]
-        if counts and value not in counts:
-            came = ' or '.join(counted(count, 'unit') for count in counts)
-            raise Impossible(f'{came} came since screened was 0')
+        self.begun(unit - value, unit)
         demand(value >= self.i[0], 'S is no less than the clearance number, and this is')
         demand(value > self.quiet_at, f'a defect at {self.quiet_at:,} units screened raised none')
-        self.screened_from = (unit - value,)
         self.long_at, self.i = min(self.long_at, value), (self.i[0], min(self.i[1], value))
+
+    def begun(self, began, unit):
+        """The sequence began after that unit, since LONG counts all that were screened in it, up to this one."""
+        fit = [sequence for sequence in self.sequences if sequence.earliest <= began <= sequence.latest]
+        if not fit:
+            came = ' or '.join(dict.fromkeys(sequence.units(unit) for sequence in self.sequences))
+            raise Impossible(f'{came} came since the sequence began')
+        for sequence in fit:
+            sequence.earliest = sequence.latest = began
+        self.sequences = fit
 
     def defect(self, number, unit, value):
         demand(value in (0, 1), 'DEFECT has the value 0 or 1')
@@ -259,15 +291,14 @@ class History:
         self.at(unit, settles=True, handled=True)
         if value == SCREENING:
             self.defect_in_screening(unit)
-            screened = unit - max(self.screened_from) if self.screened_from else 0
-            self.due = Due(LONG, unit, screened >= self.long_at, 'DEFECT')
+            self.due = Due(LONG, unit, self.least_screened(unit) >= self.long_at, 'DEFECT')
         else:
             self.due = Due(PHASE, unit, self.type == CSP_T, 'DEFECT')
 
     def defect_in_screening(self, unit):
         """Run starts anew, and under CSP-V need is i again."""
         self.phase, self.run_from, self.reduced = SCREENING, (unit,), False
-        self.spent += 1
+        self.spend(unit)
 
     def missed(self, number, unit, value):
         demand(unit > 0 and value > 0, 'MISSED names one unit or more, from 1 on')
@@ -304,9 +335,8 @@ class History:
         if self.phase not in (None, SCREENING):
             raise Impossible(f'the phase is {PHASES[self.phase]}')
         self.at(unit, settles=True, handled=False)
-        demand(self.sequence is None or unit - self.sequence > self.spent, 'no screened unit is left to recall')
-        self.phase, self.run_from, self.screened_from = SCREENING, (unit,), (unit,)
-        self.spent += 1
+        self.phase, self.run_from = SCREENING, (unit,)  # the sequence goes on, and screened with it
+        self.spend(unit)
 
     # ---- A change of plan
 
@@ -345,7 +375,8 @@ class History:
         if higher:
             self.screen(unit)
             return
-        self.run_from, self.screened_from = also(self.run_from, unit), also(self.screened_from, unit)
+        self.run_from = also(self.run_from, unit)
+        self.sequences.append(Sequence(unit, unit))
         self.reduced = self.reduced and by_defect
 
 
