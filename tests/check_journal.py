@@ -44,7 +44,7 @@ EVERY_KIND = '''\
         6  PHASE             12      1,235  screening
         7  DEFECT            13      1,236  in screening
         8  DEFECT            14      1,250  in screening
-        9  LONG              15      1,250  15 units screened
+        9  LONG              15      1,250  15 units screened since the sequence began
        10  MISSED            16      1,251  3 units not seen: 1,251 to 1,253
        11  SILENCE           17      1,254  1 tick in a row with no unit
        12  CHECK             18      1,254  a defect found in a screened unit

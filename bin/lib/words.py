@@ -88,7 +88,7 @@ def new_plan(n):
 SAYING = {
     START: lambda unit, value: f'clearance number {value:,}',
     PHASE: lambda unit, value: named(PHASES, value),
-    LONG: lambda unit, value: f'{counted(value, "unit")} screened',
+    LONG: lambda unit, value: f'{counted(value, "unit")} screened since the sequence began',
     DEFECT: lambda unit, value: named(PLACES, value),
     MISSED: lambda unit, value: f'{counted(value, "unit")} not seen: {span(unit, unit + value - 1)}' if value else 'value 0',
     SILENCE: lambda unit, value: f'{counted(value, "tick")} in a row with no unit',
