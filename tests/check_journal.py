@@ -7,7 +7,7 @@ import sys
 import model
 from check_stored import FOLDER
 from drive import Driver
-from model import CHECK, DEFECT, INTERRUPT, LONG, MARKER, MISSED, PHASE, PLAN, SILENCE, START, written
+from model import CHECK, DEFECT, INTERRUPT, LONG, MARKER, MISSED, PHASE, PLAN, SCREENING, SILENCE, START, written
 from programs import ROOT
 
 sys.path.insert(0, str(ROOT / 'bin'))
@@ -357,10 +357,10 @@ def check(report, pair, options):
     changes(report)
     whole_sessions(report)
     files(report)
-    heard, caught, tried = random_journals(report, options)
+    heard, caught, tried, over = random_journals(report, options)
     return (f'every kind, {len(DAMAGED)} damaged lines, {len(closings())} closing lines, every stored session, '
             f'{len(HISTORIES) + len(KNOWN)} histories that no station could write, {len(TAKEN_UP)} changes of plan, '
-            f'{heard:,} events of random sessions; '
+            f'{heard:,} events of random sessions, {over:,} LONG counted over a find; '
             f'of {tried:,} changed journals {caught:,} caught')
 
 
@@ -558,10 +558,10 @@ def whole_sessions(report):
 
 def random_journals(report, options):
     """Every event of random sessions is possible, with markers in any place too; most changes of one entry are not."""
-    heard = caught = tried = known = plans = 0
+    heard = caught = tried = known = plans = over = 0
     for at in range(max(20, options.count // 10)):
         name = f'{options.seed}-journal-{at}'
-        witness, chosen = Witness(name), random.Random(name)
+        witness, chosen = (Diligent if at % 4 == 0 else Witness)(name), random.Random(name)
         entries = witness.whole_journal()
         heard += len(entries)
         plans += sum(kind == PLAN for _, kind, *_ in entries)
@@ -576,9 +576,19 @@ def random_journals(report, options):
             changed = with_a_change(entries, chosen)
             tried += 1
             caught += bool(faults(changed))
+        over += over_finds(report, name, entries)
     report.check(plans > 0 and known > 0, f'{plans:,} changes of plan and {known:,} known frequencies in random sessions')
+    report.check(over > 0, 'no LONG counts over a check find in random sessions')
     report.check(caught > tried * 2 // 3, f'bin/journal finds {caught:,} of {tried:,} changed journals to be impossible')
-    return heard, caught, tried
+    return heard, caught, tried, over
+
+
+def over_finds(report, name, entries):
+    """Each LONG after a check find of its sequence counts over the find: counted from it, it is impossible. How many there are."""
+    changed = list(counted_from_finds(entries))
+    for journal_changed in changed:
+        report.check(faults(journal_changed), f'bin/journal takes a LONG that counts from a check find in {name}')
+    return len(changed)
 
 
 class Witness(Driver):
@@ -618,6 +628,20 @@ class Witness(Driver):
         return in_force == {self.ns[0][1] if held == OPENED else held}
 
 
+class Diligent(Witness):
+    """One with many defects and many check finds, so that LONG counts over a find."""
+
+    def turn(self):
+        if self.station.phase != SCREENING or self.chance(0.1):
+            super().turn()
+        elif self.station.owed:
+            self.result(1 if self.chance(0.4) else 0)
+        elif self.chance(0.3):
+            self.find()
+        else:
+            self.unit()
+
+
 def with_markers(entries, chosen):
     marked, at = [], 0
     while at < len(entries):
@@ -639,6 +663,18 @@ def with_a_change(entries, chosen):
         (0, kind, number, unit, value + 1),
     ))
     return [*entries[:at], change, *entries[at + 1:]]
+
+
+def counted_from_finds(entries):
+    """The journal with one LONG counted from the last check find of its sequence, for each LONG that has one."""
+    find = None
+    for at, (_, kind, number, unit, _) in enumerate(entries):
+        if kind == CHECK:
+            find = unit
+        elif kind in (PHASE, MISSED, INTERRUPT, PLAN):
+            find = None
+        elif kind == LONG and find is not None:
+            yield [*entries[:at], (0, LONG, number, unit, unit - find), *entries[at + 1:]]
 
 
 # ---- Files
