@@ -130,7 +130,7 @@ pub fn screened_bad(p: Plan, unit: u32, c: Screening) -> Moved
     }
 }
 
-// A check find.
+// A check find: a new run, and the units screened stay screened (document 02, W2).
 pub fn after_find(phase: Phase) -> Phase
     requires { ⌜ Findable phase ⌝ }
     ensures { λ r. ⌜ r ≡ afterFind phase ⌝ }
