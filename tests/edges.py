@@ -94,6 +94,10 @@ def screening_clauses():
     yield 'screened to last less owed', ALL, SCREENING, dict(screened=16, **OWED), dict(screened=17, **OWED)
     yield 'run to unrecalled', ALL, SCREENING, dict(unrecalled=2), dict(unrecalled=1)
     yield 'unrecalled to screened', ALL, SCREENING, dict(unrecalled=6), dict(unrecalled=7)
+    yield 'unrecalled to screened, owed', ALL, SCREENING, dict(unrecalled=6, **OWED), dict(unrecalled=7, **OWED)
+    none = dict(run=0, screened=0)
+    yield 'unrecalled to a screened of 0', ALL, SCREENING, dict(unrecalled=0, **none), dict(unrecalled=1, **none)
+    yield 'unrecalled to screened, need x', [CSP_V], SCREENING, dict(need=3, unrecalled=6), dict(need=3, unrecalled=7)
     yield 'unrecalled to conforming', ALL, SCREENING, dict(unrecalled=7, screened=9), dict(unrecalled=8, screened=9)
 
 

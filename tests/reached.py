@@ -95,6 +95,7 @@ GOALS = (
     'jump in screening', 'jump in sampling', 'jump at first', 'jump cuts a run', 'jump after i good samples',
     'interrupt in screening', 'interrupt in sampling', 'interrupt after i good samples',
     'find', 'find in sampling', 'find with none left', 'find while owed', 'find after a find', 'find at S', 'find above S',
+    'find with a unit heard', 'find in a silence',
     'LONG at the first defect after a find', 'LONG at a later defect after a find', 'LONG after a find, none left to recall',
     'LONG after a find and a change at once', *(f'LONG after a find under {plan}' for plan in CHANGEABLE),
     'defect below S after a find', 'defect after a find under CSP-F',
@@ -322,7 +323,7 @@ class Watcher:
         self.new_sequence(before, 'interrupt', 'an interrupt')
 
     def find(self, frame, before, answer, after):
-        self.reach('find')
+        self.reach('find', 'find with a unit heard' if before.heard else 'find in a silence' if before.silent else 'find after a tick')
         if before.need < before.i:
             self.reach('find under need x')
         self.reach(*self.finds.find(before))

@@ -559,7 +559,7 @@ def finds_refused(s):
 
 @session
 def long_at_every_defect(s):
-    """S = 4: LONG comes at each defect from the 4th unit screened on, and starts nothing anew; nor does a check find."""
+    """S = 4: LONG comes at each defect from the 4th unit screened on, and starts nothing anew; a check find leaves screened as it is."""
     s.open(CSP_1, 2, 3, 4)
     s.bad(3)
     s.take_all()
@@ -1522,7 +1522,7 @@ def find_and_a_change(s):
     s.change(CSP_1, 5, 4, 5)
     s.bad()
     s.take_all()
-    # all that is not recalled is left to find, and a higher S judges what stayed: 6 of 7, and 7
+    # a find on either side of a change to S 7: no LONG at the sixth unit screened, one at the seventh
     s.find()
     s.change(CSP_1, 6, 5, 7)
     s.find()
@@ -1621,6 +1621,37 @@ def pinned_csp_1(s):
     s.good(3)
     s.tick(2)
     s.take_all()
+
+
+@session
+def pinned_csp_1_find(s):
+    """Pinned. CSP-1: a check find late in a run sets run to 0, breaks no silence, and leaves screened, need and what can be recalled."""
+    s.open(CSP_1, 3, 6, 7, seed=0x2D5F1E35)
+    # a find with five good ones of the six needed: five more start no sampling
+    s.good(5)
+    s.find()
+    s.good(5)
+    # a find after a unit that was heard: the tick is not silent, the next is, and one more find leaves the count of ticks
+    s.find()
+    s.tick(2)
+    s.find()
+    s.tick()
+    s.take_all()
+    # S is 7: the first defect is the eleventh unit screened
+    s.bad()
+    s.take_all()
+    # of ten good ones three are recalled, and seven are left
+    for _ in range(7):
+        s.find()
+    s.find()
+    s.take_all()
+    # the six needed start sampling
+    s.good(5)
+    s.take()
+    s.good()
+    s.take_all()
+    s.units(6)
+    s.find()
 
 
 @session
