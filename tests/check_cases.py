@@ -52,6 +52,16 @@ def opened(*plan, **more):
     return script
 
 
+def counts(script):
+    st = script.station
+    return st.need, st.run, st.screened, st.unrecalled
+
+
+def tallies(script):
+    st = script.station
+    return st.conforming, st.defective, st.passed, st.missed, st.owed, st.last
+
+
 def letter_a():
     """Letter A, AQL 10.0: n 2, i 5, S 12."""
     script = Script()
@@ -192,7 +202,7 @@ def at_once_in_screening():
     script.good()
     yield script.station.need == 2
     script.change(CSP_V, 5, 4, 4, x=1)
-    yield (script.station.need, script.station.run, script.station.screened, script.station.unrecalled) == (4, 1, 1, 1)
+    yield counts(script) == (4, 1, 1, 1)
     yield last_event(script) == (PLAN, script.station.last, 5)
 
 
@@ -220,7 +230,7 @@ def on_demand():
         script.good(2)
         script.change(CSP_1, 2, 1, 1)
         script.change(CSP_1, n, i, 5, demand=1)
-        yield (script.station.need, script.station.run, script.station.screened, script.station.unrecalled) == (i, 0, 0, 0)
+        yield counts(script) == (i, 0, 0, 0)
         yield model.waiting_plan(script.station) == model.NO_PLAN
         yield told(script)[-1] == (PLAN, 2, n)
 
@@ -259,11 +269,6 @@ CHANGES = (
 
 
 # ---- W2: screened units after a find
-
-def counts(script):
-    st = script.station
-    return st.need, st.run, st.screened, st.unrecalled
-
 
 def find_leaves_screened():
     """A find sets run to 0 and leaves screened; unrecalled falls by 1, and need and the tallies stay."""
@@ -322,11 +327,6 @@ def unrecalled_at_most_screened():
     script.station.screened = 2
     yield not model.sound(script.station)
     yield script.find() == refused(2)
-
-
-def tallies(script):
-    st = script.station
-    return st.conforming, st.defective, st.passed, st.missed, st.owed, st.last
 
 
 FINDS = (find_leaves_screened, alarm_follows, new_sequence_counts_anew, unrecalled_at_most_screened)
