@@ -16,8 +16,8 @@ PORTION = 20
 def check(report, pair, options):
     jobs = {name: programs.recorder_job(name) for name in pair}
     reached, frames = Counter(), 0
-    portions = [(jobs, options.seed, start, min(PORTION, options.count - start)) for start in range(0, options.count, PORTION)]
-    for sent, counts, agreed, differing, unsound in in_parallel(run_portion, portions):
+    given = [(jobs, options.seed, start, min(PORTION, options.count - start)) for start in portions(options)]
+    for sent, counts, agreed, differing, unsound in in_parallel(run_portion, given):
         frames += sent
         reached.update(counts)
         report.passed += agreed
@@ -26,6 +26,11 @@ def check(report, pair, options):
         report.check(not unsound, f'the model reaches a record that is not sound: {", ".join(unsound)}')
     report.reached(reached, GOALS)
     return f'{options.count:,} sessions, {frames:,} frames, every record reached is sound' + listing(reached)
+
+
+def portions(options):
+    """Where each begins."""
+    return range(0, options.count, PORTION)
 
 
 def listing(reached):
