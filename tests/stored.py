@@ -1541,6 +1541,72 @@ def find_and_a_change(s):
     s.take_all()
 
 
+# ---- How long the line can go unseen: document 02, W13
+
+@session
+def left_after_266_units(s):
+    """Letter G, AQL 0.40: units 1 to 266 conform, and with unit 266 the run is as long as i: screening is left there."""
+    s.table(CSP_T, G, 400, seed=0)
+    s.good(266)
+    s.take_all()
+
+
+@session
+def unit_200_missed(s):
+    """Letter G, AQL 0.40: unit 200 is never named, so the run starts anew with 201; every result is good, and 466 leaves screening."""
+    s.table(CSP_T, G, 400, seed=0)
+    s.good(199)
+    s.unit(201)
+    s.result(0)
+    s.good(265)
+    s.take_all()
+
+
+@session
+def two_pass_in_a_row(s):
+    """n 2, seed 0, places 0, 0, 1: units 6 and 7 pass in a row, 2L - 2 of them, between 5 and 8, which are inspected."""
+    s.open(CSP_1, 2, 2)
+    s.good(2)
+    s.units(6)
+    s.take_all()
+
+
+@session
+def five_pass_over_a_change(s):
+    """Change: n 3, then 2 at once in sampling: units 7 to 11 pass, 2L - 1 of them, since the change ends a stay; no PHASE tells it."""
+    s.open(CSP_1, 3, 2)
+    s.good(2)
+    # seed 0: places 0, 0 and 2; the change comes before unit 11, which was to be inspected, and the next block of 2 has place 1
+    s.units(8)
+    s.change(CSP_1, 2, 1)
+    s.units(2)
+    s.take_all()
+
+
+@session
+def what_breaks_a_run(s):
+    """A find breaks a run one short of i 4; a refused find and an equal frequency on demand break none; a change to i 6 makes it longer."""
+    s.open(CSP_1, 3, 4)
+    s.good(3)
+    s.find()
+    s.good(3)
+    s.take_all()
+    # a run of 3 again: with the next good unit it would be cleared, but for the change
+    s.change(CSP_1, 3, 9, demand=1)
+    s.change(CSP_1, 5, 6)
+    s.unit()
+    s.find()
+    s.result(0)
+    s.take_all()
+    s.good(1)
+    s.tick()
+    s.take_all()
+    # the sixth in a row
+    s.good(1)
+    s.take_all()
+    s.find()
+
+
 # ---- Pinned sessions: crates/rules/proofs computes their answers from the definitions, in Sessions.antt and Program.antt
 
 @session
