@@ -25,7 +25,7 @@ def check(report, pair, options):
             report.agreed(name, text, outputs)
         report.check(not unsound, f'the model reaches a record that is not sound: {", ".join(unsound)}')
     report.reached(reached, GOALS)
-    return f'{options.count:,} sessions, {frames:,} frames, every record reached is sound' + listing(reached)
+    return f'{options.count:,} sessions, {frames:,} frames, every record reached is sound' + listing(reached, GOALS)
 
 
 def portions(options):
@@ -33,9 +33,9 @@ def portions(options):
     return range(0, options.count, PORTION)
 
 
-def listing(reached):
+def listing(reached, goals):
     """What was reached, a few to a line."""
-    entries = [f'{goal} {reached[goal]:,}' for goal in GOALS]
+    entries = [f'{goal} {reached[goal]:,}' for goal in goals]
     lines, line = [], ''
     for entry in entries:
         if len(line) + len(entry) > 110:

@@ -34,6 +34,13 @@ class Report:
         else:
             self.check(False, difference(name, text, outputs) if self.shown < SHOWN else name)
 
+    def faultless(self, name, text, fault):
+        """Counts one session with what is wrong in its answers, or None; a fault is said with its frame, and the session saved."""
+        if fault is None:
+            self.passed += 1
+        else:
+            self.check(False, f'{name}: {fault} of {save(name, text)}' if self.shown < SHOWN else name)
+
     def reached(self, counts, goals):
         """A goal that was never reached is a failure: what was not tried is not tested."""
         for goal in goals:
