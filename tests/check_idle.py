@@ -8,6 +8,7 @@ import check_output
 import check_pipe
 import check_random
 import check_stored
+import check_unseen
 import programs
 from report import Report
 
@@ -18,7 +19,7 @@ PATIENCE = 0.2
 FEW = dict(TRIES=5, CALLS={'willing': 20})
 PARTS = {
     'stored': check_stored.check, 'random': check_random.check, 'pipe': check_pipe.check, 'output': check_output.check,
-    'mistakes': check_mistakes.check,
+    'mistakes': check_mistakes.check, 'unseen': check_unseen.check,
 }
 
 
@@ -30,6 +31,9 @@ class Unheard(Report):
 
     def agreed(self, name, text, outputs):
         self.check(len(set(outputs.values())) == 1, name)
+
+    def faultless(self, name, text, fault):
+        self.check(fault is None, name)
 
     def reached(self, counts, goals):
         """So few sessions do not reach all, whatever the program does."""
