@@ -13,9 +13,13 @@ from lib.journal import Journal, plain_fault
 from lib.phases import Phases
 from lib.words import CHECK, DEFECT, GAP, INTERRUPT, KINDS, LONG, MISSED, PHASE, PLAN, SILENCE, START, counted, one_in
 
-CALL = 22
+FRAME, CALL = 9, 22  # columns
 NUMBERS_END = 10  # a refusal that no call asks for: it comes when the event numbers run out
-HEAD = f'{"frame":>9}  {"call and answer":<{CALL}}  {words.COLUMNS}'
+HEAD = f'{"frame":>{FRAME}}  {"call and answer":<{CALL}}  {words.COLUMNS}'
+
+
+def row(at, text, fault=None):
+    return f'{at:>{FRAME},}  {text}\n' + (words.NOTE.format(fault) if fault else '')
 
 
 class Tally:
@@ -203,13 +207,13 @@ class Session:
         fault = self.answer_fault(code, said, answer)
         if fault is not None:
             raw = '%02X %02X %08X %08X %08X' % answer
-            return self.row(at, f'{calls.asked(code, said)}: {raw}', self.journal.cannot_be(at, fault))
+            return row(at, f'{calls.asked(code, said)}: {raw}', self.journal.cannot_be(at, fault))
         if refusal:
             self.refusals[refusal] += 1
-            return self.row(at, calls.refused(code, said, refusal))
+            return row(at, calls.refused(code, said, refusal))
         if kind:
             return self.entry(at, kind, number, unit, value)
-        return self.row(at, HEARD[code](self, code, said, value))
+        return row(at, HEARD[code](self, code, said, value))
 
     def answer_fault(self, code, said, answer):
         """Why the program could not answer this call so now, or None."""
@@ -245,9 +249,6 @@ class Session:
             return 6 if said[0] <= self.tally.last else 7 if said[0] > self.limit else 0
         return None if code == FIND else 0
 
-    def row(self, at, text, fault=None):
-        return f'{at:>9,}  {text}\n' + (words.NOTE.format(fault) if fault else '')
-
     def entry(self, at, kind, number, unit, value):
         """A take that tells an entry."""
         before = self.journal.history.phase
@@ -263,7 +264,7 @@ class Session:
             self.phases.told(before, kind, min(unit, self.tally.last), value, self.may_drop())
             fault = self.not_raised(at, kind, unit, value)
         self.raised.least = max(self.raised.least, self.journal.last)
-        return self.row(at, f'{"take":<{CALL}}  {words.entry(kind, number, unit, value)}', fault)
+        return row(at, f'{"take":<{CALL}}  {words.entry(kind, number, unit, value)}', fault)
 
     def not_raised(self, at, kind, unit, value):
         """Whether the calls raise an event that a station could write; what is wrong, or None."""
