@@ -59,6 +59,7 @@ Summary
   plan       CSP-1 n 2 i 2 S 3 seed 0x0
   frames     14: open 1, unit 5, result 3, take 5; none refused
   units      6: 3 conforming, 0 defective, 1 passed, 1 missed, 1 owed a result
+  unseen     at most 2 units in a row: 4 to 5 (4 passed, 5 missed); the result of unit 6 is owed
   events     4 told: START 1, PHASE 2, MISSED 1
   phases     1 to 2  screening
              3 to 4  sampling level 0
@@ -133,6 +134,7 @@ Summary
   frames     47: open 1, unit 14, result 8, change 11, take 12, ill-formed 1
              7 refused: 1 with 2, 1 with 3, 1 with 4, 1 with 9, 3 with 11
   units      44: 8 conforming, 0 defective, 6 passed, 30 missed, 0 owed a result
+  unseen     at most 31 units in a row: 7 to 37 (7 passed, 8 to 37 missed)
   events     9 told: START 1, PHASE 3, MISSED 1, PLAN 4
   phases     1 to 3    screening
              4 to 7    sampling level 0

@@ -11,6 +11,7 @@ from lib.calls import CHANGE, FIND, INTERRUPTED, NO_FRAME, OPEN, RESULT, TABLE, 
 from lib.history import SCREENING
 from lib.journal import Journal, plain_fault
 from lib.phases import Phases
+from lib.unseen import Unseen
 from lib.words import CHECK, DEFECT, GAP, INTERRUPT, KINDS, LONG, MISSED, PHASE, PLAN, SILENCE, START, counted, one_in
 
 FRAME, CALL = 9, 22  # columns
@@ -187,6 +188,7 @@ class Session:
         self.tally = Tally()
         self.raised = Raised()
         self.phases = Phases()
+        self.unseen = Unseen()
         self.plan = None
         self.plans = Plans()
         self.waits = None     # the plan that waits, unless an untold event has taken it up
@@ -303,6 +305,7 @@ class Session:
     def unit(self, code, said, value):
         number, = said
         first = self.tally.last + 1
+        self.unseen.unit(self.tally.last, number, value)
         self.tally.unit(number, value)
         self.raised.quiet = False
         if number > first:

@@ -16,10 +16,13 @@ def lines(session):
     """The summary, line for line; the verdict is the last."""
     parts = [('plan', [plan(session)]), ('frames', frames(session))]
     if session.plan:
-        parts += [('units', [units(session.tally)]), ('events', [events(session)])]
+        last, owed = session.tally.last, session.tally.owed
+        parts += [('units', [units(session.tally)])]
+        parts += [('unseen', [session.unseen.line(last, owed)])] if last else []
+        parts += [('events', [events(session)])]
         parts += [('dropped', dropped(session))] if session.gaps else []
-        parts += [('phases', phase_lines(session))] if session.tally.last else []
-        parts += [('frequency', session.frequencies())] if session.tally.last and session.journal.asked else []
+        parts += [('phases', phase_lines(session))] if last else []
+        parts += [('frequency', session.frequencies())] if last and session.journal.asked else []
         parts += [('waiting', [session.waiting()])] if session.waiting() else []
     told = ['Summary']
     for label, texts in parts:
