@@ -61,6 +61,7 @@ Summary
   units      6: 3 conforming, 0 defective, 1 passed, 1 missed, 1 owed a result
   unseen     at most 2 units in a row: 4 to 5 (4 passed, 5 missed); the result of unit 6 is owed
   events     4 told: START 1, PHASE 2, MISSED 1
+  left       screening at unit 2, after 2 conforming units in a row: 1 to 2
   phases     1 to 2  screening
              3 to 4  sampling level 0
              5       missed
@@ -136,6 +137,8 @@ Summary
   units      44: 8 conforming, 0 defective, 6 passed, 30 missed, 0 owed a result
   unseen     at most 31 units in a row: 7 to 37 (7 passed, 8 to 37 missed)
   events     9 told: START 1, PHASE 3, MISSED 1, PLAN 4
+  left       screening at unit 3, after 3 conforming units in a row: 1 to 3
+             screening at unit 39, after 1 conforming unit in a row: 39
   phases     1 to 3    screening
              4 to 7    sampling level 0
              8 to 37   missed

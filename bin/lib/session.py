@@ -8,10 +8,10 @@ from collections import Counter, deque
 
 from lib import calls, words
 from lib.calls import CHANGE, FIND, INTERRUPTED, NO_FRAME, OPEN, RESULT, TABLE, TAKE, TICK, TYPES, UNIT
-from lib.history import SCREENING
+from lib.history import SAMPLING, SCREENING
 from lib.journal import Journal, plain_fault
-from lib.phases import Phases
-from lib.unseen import Unseen
+from lib.phases import Phases, own_phase
+from lib.unseen import Runs, Unseen
 from lib.words import CHECK, DEFECT, GAP, INTERRUPT, KINDS, LONG, MISSED, PHASE, PLAN, SILENCE, START, counted, one_in
 
 FRAME, CALL = 9, 22  # columns
@@ -189,6 +189,7 @@ class Session:
         self.raised = Raised()
         self.phases = Phases()
         self.unseen = Unseen()
+        self.runs = Runs()
         self.plan = None
         self.plans = Plans()
         self.waits = None     # the plan that waits, unless an untold event has taken it up
@@ -253,7 +254,7 @@ class Session:
 
     def entry(self, at, kind, number, unit, value):
         """A take that tells an entry."""
-        before = self.journal.history.phase
+        before, began = self.journal.history.phase, self.journal.history.run_from
         fault = self.journal.hear(at, kind, number, unit, value)
         if fault or kind in (GAP, PLAN):
             self.waits = None
@@ -265,6 +266,8 @@ class Session:
             self.event(kind, number, unit)
             self.phases.told(before, kind, min(unit, self.tally.last), value, self.may_drop())
             fault = self.not_raised(at, kind, unit, value)
+        if fault is None and kind == PHASE and self.leaves(before, value):
+            fault = self.left_screening(at, unit, began)
         self.raised.least = max(self.raised.least, self.journal.last)
         return row(at, f'{"take":<{CALL}}  {words.entry(kind, number, unit, value)}', fault)
 
@@ -274,6 +277,19 @@ class Session:
         if unit > self.tally.last:
             why = 'no such unit has come'
         return self.journal.cannot_be(at, why) if why else None
+
+    def leaves(self, before, value):
+        """Whether a PHASE tells for certain that screening was left: one to level 0 may also come from a higher level."""
+        came_from = own_phase(PHASE, value, self.may_drop()) if before is None else before
+        return value == SAMPLING and came_from == SCREENING
+
+    def left_screening(self, at, unit, began):
+        """Screening was left with this unit, after a run that began after one of those. What is wrong with that, or None."""
+        firsts = self.runs.firsts(unit, began)
+        if not firsts:
+            return self.journal.cannot_be(at, f'unit {unit:,} was not found conforming, and no other is the last of screening')
+        self.runs.left.append((unit, firsts))
+        return None
 
     def may_drop(self):
         """Whether a level may have been left for level 0: by a change of plan under CSP-T."""
@@ -318,13 +334,16 @@ class Session:
             self.raised.surely(DEFECT, self.tally.last)
         else:
             self.raised.perhaps()
+            self.runs.conforming(self.tally.last)
         return calls.asked(code, said)
 
     def interrupted(self, code, said, value):
+        self.runs.broken()
         self.raised.surely(INTERRUPT, self.tally.last, 0)
         return calls.asked(code, said)
 
     def found(self, code, said, value):
+        self.runs.broken()
         self.raised.surely(CHECK, self.tally.last, 0)
         return calls.asked(code, said)
 
@@ -343,7 +362,16 @@ class Session:
             self.raised.surely(PLAN, self.tally.last, n)
         elif does == EITHER:
             self.raised.perhaps()
+        if demanded:
+            self.sequence_demanded(does)
         return calls.asked(code, said) + in_words
+
+    def sequence_demanded(self, does):
+        """A change on demand begins a screening sequence, unless its frequency is the one in force."""
+        if does == AT_ONCE:
+            self.runs.broken()
+        elif does == EITHER:
+            self.runs.perhaps_broken(self.tally.last)
 
     def nothing(self, code, said, value):
         self.empty += 1

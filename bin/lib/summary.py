@@ -1,4 +1,4 @@
-"""A session in a few lines: plan, units, events, phases, what was dropped, frequencies, and one line of verdict."""
+"""A session in a few lines: plan, units, events, what was dropped and left, phases, frequencies, and one line of verdict."""
 
 import textwrap
 
@@ -21,7 +21,7 @@ def lines(session):
         parts += [('unseen', [session.unseen.line(last, owed)])] if last else []
         parts += [('events', [events(session)])]
         parts += [('dropped', dropped(session))] if session.gaps else []
-        parts += [('phases', phase_lines(session))] if last else []
+        parts += [('left', left(session)), ('phases', phase_lines(session))] if last else []
         parts += [('frequency', session.frequencies())] if last and session.journal.asked else []
         parts += [('waiting', [session.waiting()])] if session.waiting() else []
     told = ['Summary']
@@ -84,6 +84,31 @@ def event(told):
     return f'{KINDS[kind]} {number:,} ({f"unit {unit:,}" if unit else "no unit yet"})'
 
 
+def left(session):
+    """Each time that PHASE tells of screening being left, and after which units; then whether it may have been again."""
+    rows = session.runs.lines()
+    more = len(rows) - phases.MOST_ROWS
+    told = rows[:phases.MOST_ROWS] + ([f'and {more:,} more times'] if more > 0 else [])
+    if not untold(session):
+        return told or ['screening at no unit']
+    return [*told, f'{"and perhaps again" if told else "screening perhaps"}: {" and ".join(untold(session))}']
+
+
+def untold(session):
+    """Why a unit may have had an event that no entry tells; nothing where none can have had one."""
+    with_units = [gap for gap in session.gaps if gap['after'] is None or gap['after'][2]]
+    whys = {
+        'events were dropped': with_units, 'the journal is not sound': not session.journal.sound(),
+        'more may be left to take': open_end(session),
+    }
+    return [why for why, holds in whys.items() if holds]
+
+
+def open_end(session):
+    """Whether events may be left in the queue."""
+    return bool(session.raised.left(session.journal.last) or session.raised.more or not session.empty)
+
+
 def phase_lines(session):
     """The stretches in words, and the same as a strip to look at."""
     parts = session.stretches()
@@ -104,12 +129,12 @@ def verdict(session):
     left = raised.left(journal.last)
     if not journal.last:
         return f'Nothing was taken: {counted(left, "event")} or more are untold. Take (07) until nothing is told.'
-    return f'{taken(session, bool(left or raised.more or not session.empty))}{behind(session, left)}'
+    return f'{taken(session)}{behind(session, left)}'
 
 
-def taken(session, open_end):
+def taken(session):
     last, gaps = session.journal.last, [(gap['first'], gap['last']) for gap in session.gaps]
-    if not gaps and not open_end:
+    if not gaps and not open_end(session):
         return f'{"The one event" if last == 1 else f"Every event from 1 to {last:,}"} was taken and none is missing.'
     if not gaps:
         return f'{"Event" if last == 1 else "Events"} {span(1, last)}: taken, and none is missing.'

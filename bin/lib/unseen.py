@@ -1,9 +1,12 @@
-"""How long the line went unseen, as the calls of a session tell it.
+"""How long the line went unseen, and which units came before screening was left, as the calls of a session tell it.
 
 A unit is unseen where it passed, and where it was missed: no call that was taken names it, and a later one jumps over
 it. It is seen where it was ordered inspected.
 """
 
+from bisect import bisect
+
+from lib.calls import MOST_UNITS
 from lib.phases import NOT_SEEN
 from lib.words import counted, few, span
 
@@ -64,3 +67,53 @@ def befell(stretch):
     if len(stretch) == 1:
         return stretch[0][2]
     return few([f'{span(first, last)} {what}' for first, last, what in stretch])
+
+
+class Runs:
+    """Conforming units in a row. Those before the last of screening are what it was left for.
+
+    A unit that passed, was missed or was defective parts two runs by its number. An interrupt, a check find and a fresh
+    sequence on demand leave no number out, so they are told.
+    """
+
+    def __init__(self):
+        self.runs = []        # the first unit of each, and the last
+        self.goes_on = False
+        self.doubts = []      # the last unit at each change of which the calls do not tell whether it broke the run
+        self.left = []        # the units with which screening was left, each with those that can be its run's first
+
+    def conforming(self, unit):
+        if self.goes_on and self.runs[-1][1] == unit - 1:
+            self.runs[-1] = self.runs[-1][0], unit
+        else:
+            self.runs.append((unit, unit))
+        self.goes_on = True
+
+    def broken(self):
+        self.goes_on = False
+
+    def perhaps_broken(self, unit):
+        self.doubts.append(unit)
+
+    def firsts(self, unit, after=()):
+        """The units that can be the first of the run which ends with this one; none where it was not found conforming.
+
+        `after`: the units after which it can have begun by the journal's entries, where they tell.
+        """
+        at = bisect(self.runs, (unit, MOST_UNITS)) - 1
+        if at < 0 or self.runs[at][1] < unit:
+            return []
+        first = self.runs[at][0]
+        by_calls = {first, *(doubt + 1 for doubt in self.doubts if first <= doubt < unit)}
+        return sorted(by_calls & {began + 1 for began in after} or by_calls)
+
+    def lines(self):
+        """A line for each time that screening was left."""
+        return [line(unit, *firsts) for unit, firsts in self.left]
+
+
+def line(unit, first, *later):
+    """That screening was left with a unit, after a run that began with the first; or with a later one, if there is doubt."""
+    units = counted(unit - first + 1, 'conforming unit')
+    doubt = f', or from {" or ".join(f"{start:,}" for start in later)} on' if later else ''
+    return f'screening at unit {unit:,}, after {units} in a row: {span(first, unit)}{doubt}'
