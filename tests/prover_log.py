@@ -3,7 +3,7 @@
 import re
 from collections import namedtuple
 
-Error = namedtuple('Error', 'place text')
+Error = namedtuple('Error', 'place declaration text')
 
 # The ways in which the prover says that a fact fails: a tactic does not prove its goal, or two types differ. Whatever else
 # it says is about files that do not fit: a name that is not in scope or not there, a field that a record has not, a text
@@ -29,7 +29,7 @@ GONE = re.compile(r'has no (field |function )?`|is not in scope|is not a field o
 FOLLOWS = ' was not admitted (it has holes or undetermined implicits, or was rejected), so this cannot be checked'
 SEARCHED = '`search` does not close'
 # A place is told from the edit's copy of the crate on: what stands above it may be named in any way.
-ERROR = re.compile(r'(?m)^/.*?/must-fail/[^/\n]+/[^/\n]+/(\S+): error(?:\[\S+\])?: (?:`[^`\n]*`: )?(.*(?:\n  .*)*)')
+ERROR = re.compile(r'(?m)^/.*?/must-fail/[^/\n]+/[^/\n]+/(\S+): error(?:\[\S+\])?: (?:`([^`\n]*)`: )?(.*(?:\n  .*)*)')
 
 
 def errors(log):
@@ -61,9 +61,22 @@ def refusal_of_function(log, crate, function):
     return unread(found) or first_fact(own, SEARCHED in verdict.group(1))
 
 
+def refusal_of_definition(log, file, declaration):
+    """Why a definition is not refused by a fact of the declaration named for it, or nothing where it is."""
+    found = errors(log)
+    own = [error for error in found if (error.place.split(':')[0], error.declaration) == (f'proofs/{file}.antt', declaration)]
+    return unread(found) or gone(found) or first_fact(own, False)
+
+
 def unread(found):
     """Code or a definition that does not stand by itself leaves nothing to prove."""
     return next((f'it cannot be read: {said(error)}' for error in found if error.place.startswith(('src/', 'specs/'))), '')
+
+
+def gone(found):
+    """Several bends share the log: where something is gone, whoever named it, none of the errors is one bend's own."""
+    lost = (error for error in found if GONE.search(error.text) and not of_a_fact(error))
+    return next((f'the files do not fit: {said(error)}' for error in lost), '')
 
 
 def first_fact(found, searched):
