@@ -9,6 +9,7 @@ from collections import Counter
 from functools import partial
 
 import programs
+import shown
 from check_random import listing
 from check_stored import FOLDER
 from drive import Driver
@@ -177,6 +178,7 @@ def check(report, pair, options):
     stored = [(jobs, path.stem, path.read_bytes()) for path in sorted(FOLDER.glob('*.in'))]
     random = [(jobs, name, driver) for name, driver in drivers(options)]
     as_asked(report)
+    shown.check(report)
     by_stored, by_random = heard(report, hear_session, stored), heard(report, hear_random, random)
     for group, counts in (('stored', by_stored), ('random', by_random)):
         report.reached({f'{group}: {goal}': counts[goal] for goal in GOALS}, [f'{group}: {goal}' for goal in GOALS])
