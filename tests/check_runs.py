@@ -36,6 +36,10 @@ ROWS_OF = {'passed': ('unit {:,}: pass',), 'inspected, conforming': ('unit {:,}:
 # A frame's sign is what it may be folded as: a unit that passed, one that is inspected, a conforming result; any other.
 REPEATED = re.compile('(?:ic){2,}|p{2,}|.')
 
+# The page that shows what bin/session says of the request's two sessions.
+PAGE = FOLDER.parent / 'docs' / 'REGULATOR.md'
+EXCERPTS = 2
+
 # What the request's own sessions show: how many units unseen in a row, which, and what befell them; the unit that left
 # screening, after how many, and the first of them.
 ASKED = {
@@ -540,3 +544,14 @@ def by_recorder(report):
         report.check(refused, f'bin/session --runs {other} ends with {done.returncode}')
     helped = b'--runs' in command('session', '--help').stdout
     report.check(helped, 'bin/session --help does not name --runs')
+    on_the_page(report)
+
+
+def on_the_page(report):
+    """Each excerpt of docs/REGULATOR.md: the command in its first line prints the lines below it, in this order; `..` stands for others."""
+    excerpts = re.findall(r'```\n\$ bin/(.*)\n([^`]*)```', PAGE.read_text())
+    report.check(len(excerpts) == EXCERPTS, f'{PAGE.name} has {len(excerpts)} excerpts, and {EXCERPTS} are due')
+    for line, shown in excerpts:
+        printed = iter(command(*line.split(), cwd=FOLDER.parent).stdout.decode().splitlines())
+        absent = next((row for row in shown.splitlines() if row != '..' and row not in printed), None)
+        report.check(absent is None, f'bin/{line} does not print what {PAGE.name} shows: {absent}')
