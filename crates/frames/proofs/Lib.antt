@@ -1,3 +1,5 @@
 pub mod HexSum
+pub mod Filled
+pub mod Plain
 pub mod Replies
 pub mod Variants

@@ -1,2 +1,4 @@
 pub mod Weights
 pub mod Replies
+pub mod Course
+pub mod Walks

@@ -5,7 +5,9 @@ use rules::Answer;
 use rules::Refusal;
 use rules::Values;
 ghost use mathlib.Core.Path.{_≡_};
-ghost use Prim.Native.Nat.{_≤_};
+ghost use Prim.Native.Nat.{_+_, _≤_};
+ghost use lib.ListN.{length};
+ghost use lib.Seq.{paste};
 ghost use Rattle.rules.specs.Sound.{one};
 ghost use Rattle.rules.specs.Calls.{refusalNumber, values, answerValues};
 ghost use Rattle.rules.specs.Frames.{printed, answerLine};
@@ -107,7 +109,7 @@ fn printed(v: Values) -> [u8; 33]
     ]
 }
 
-// The lines of an answer that is done, and of an order to inspect: most answers are one of these two, and nothing is computed for
+// The line of an answer that is done: most answers are this line or differ from it in a digit or two, and nothing more is computed for
 // them.
 fn done_line() -> [u8; 33]
     ensures { λ r. ⌜ r ≡ printed (values 0 0 0 0 0) ⌝ }
@@ -121,19 +123,60 @@ fn inspect_line() -> [u8; 33]
     *b"00 00 00000000 00000000 00000001\n"
 }
 
-fn order_line(inspect: bool) -> [u8; 33]
-    ensures { λ r. ⌜ r ≡ printed (values 0 0 0 0 (one inspect)) ⌝ }
+fn refusal_line(r: Refusal) -> [u8; 33]
+    ensures { λ t. ⌜ t ≡ answerLine (Answer.Refused r) ⌝ }
 {
-    if inspect { inspect_line() } else { done_line() }
+    let n = two_digits(refusal_number(r));
+    let mut line = done_line();
+    line[0] = n[0];
+    line[1] = n[1];
+    line
 }
 
 pub fn answer_line(a: Answer) -> [u8; 33]
     ensures { λ r. ⌜ r ≡ answerLine a ⌝ }
 {
+    printed(answer_values(a))
+}
+
+// A line put at an index.
+pub fn put_line(out: &mut [u8], at: usize, line: [u8; 33])
+    requires { ⌜ at + 33 ≤ length (now out) ⌝ }
+    ensures { λ _. ⌜ now (out .exit) ≡ paste (now (out .entry)) at line 33 ⌝ }
+{
+    for k in 0..33 {
+        out[at + k] = line[k];
+    }
+}
+
+fn put_order(out: &mut [u8], at: usize, inspect: bool)
+    requires { ⌜ at + 33 ≤ length (now out) ⌝ }
+    ensures { λ _. ⌜ now (out .exit) ≡ paste (now (out .entry)) at (answerLine (Answer.Ordered inspect)) 33 ⌝ }
+{
+    if inspect {
+        put_line(out, at, inspect_line());
+        return;
+    }
+    put_line(out, at, done_line());
+}
+
+pub fn put_refusal(out: &mut [u8], at: usize, r: Refusal)
+    requires { ⌜ at + 33 ≤ length (now out) ⌝ }
+    ensures { λ _. ⌜ now (out .exit) ≡ paste (now (out .entry)) at (answerLine (Answer.Refused r)) 33 ⌝ }
+{
+    put_line(out, at, refusal_line(r))
+}
+
+// Each answer is put by its own arm, straight into the output.
+pub fn put_answer(out: &mut [u8], at: usize, a: Answer)
+    requires { ⌜ at + 33 ≤ length (now out) ⌝ }
+    ensures { λ _. ⌜ now (out .exit) ≡ paste (now (out .entry)) at (answerLine a) 33 ⌝ }
+{
     match a {
-        Answer::Done => done_line(),
-        Answer::Nothing => done_line(),
-        Answer::Ordered(inspect) => order_line(inspect),
-        _ => printed(answer_values(a)),
+        Answer::Refused(r) => put_refusal(out, at, r),
+        Answer::Done => put_line(out, at, done_line()),
+        Answer::Ordered(inspect) => put_order(out, at, inspect),
+        Answer::Nothing => put_line(out, at, done_line()),
+        _ => put_line(out, at, answer_line(a)),
     }
 }

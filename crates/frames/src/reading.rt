@@ -9,6 +9,7 @@ ghost use mathlib.Core.Path.{_≡_};
 ghost use Prim.Native.Nat.{_+_, _*_, _≤_};
 ghost use lib.ListN.{length};
 ghost use Rattle.rules.specs.Frames.{hex, word, spaced, bareFrame, oneWordFrame, tableFrame, planFrame, sevenWordFrame, frameOf, readLine};
+ghost use Rattle.frames.specs.Weights.{Weighs};
 
 fn spaced(space: u8, v: u64) -> u64
     ensures { λ r. ⌜ r ≡ spaced space v ⌝ }
@@ -17,12 +18,12 @@ fn spaced(space: u8, v: u64) -> u64
 }
 
 // Word j of a line.
-fn word(line: &[u8], j: usize) -> u64
-    requires { ⌜ 11 + 9 * j ≤ length (now line) ⌝ }
+fn word(weights: &[u64], line: &[u8], j: usize) -> u64
+    requires { ⌜ Weighs (now weights) × (11 + 9 * j ≤ length (now line)) ⌝ }
     ensures { λ r. ⌜ r ≡ word (now (line .entry)) j ⌝ }
 {
     let at = 2 + 9 * j;
-    spaced(line[at], digits::hex8(line, 3 + 9 * j))
+    spaced(line[at], digits::hex8(weights, line, 3 + 9 * j))
 }
 
 fn bare_frame(code: u64) -> Reading
@@ -151,57 +152,59 @@ fn seven_word_frame(
     plan_frame(code, plan, last as u32)
 }
 
-fn frame_of(line: &[u8]) -> Reading
+// A frame of four words or more.
+fn longer_frame(weights: &[u64], line: &[u8]) -> Reading
+    requires { ⌜ Weighs (now weights) × (length (now line) ≡ 2 → ⊥) × (length (now line) ≡ 11 → ⊥) ⌝ }
     ensures { λ r. ⌜ r ≡ frameOf (now (line .entry)) ⌝ }
 {
     let n = line.len();
-    if n == 2 {
-        return bare_frame(digits::hex2(line, 0));
-    }
-    if n == 11 {
-        return one_word_frame(digits::hex2(line, 0), word(line, 0));
-    }
     if n == 38 {
         return table_frame(
-            digits::hex2(line, 0),
-            word(line, 0),
-            word(line, 1),
-            word(line, 2),
-            word(line, 3),
+            digits::hex2(weights, line, 0),
+            word(weights, line, 0),
+            word(weights, line, 1),
+            word(weights, line, 2),
+            word(weights, line, 3),
             0,
         );
     }
     if n == 47 {
         return table_frame(
-            digits::hex2(line, 0),
-            word(line, 0),
-            word(line, 1),
-            word(line, 2),
-            word(line, 3),
-            word(line, 4),
+            digits::hex2(weights, line, 0),
+            word(weights, line, 0),
+            word(weights, line, 1),
+            word(weights, line, 2),
+            word(weights, line, 3),
+            word(weights, line, 4),
         );
     }
     if n == 65 {
         return seven_word_frame(
-            digits::hex2(line, 0),
-            word(line, 0),
-            word(line, 1),
-            word(line, 2),
-            word(line, 3),
-            word(line, 4),
-            word(line, 5),
-            word(line, 6),
+            digits::hex2(weights, line, 0),
+            word(weights, line, 0),
+            word(weights, line, 1),
+            word(weights, line, 2),
+            word(weights, line, 3),
+            word(weights, line, 4),
+            word(weights, line, 5),
+            word(weights, line, 6),
         );
     }
     Reading::Bad
 }
 
-// A line, its line feed left off; that it is over 80 characters is tested first.
-pub fn read_line(line: &[u8]) -> Reading
+// The frame that a line is, its line feed left off: that it has 11 characters is tested first, since most have. No frame has over 80,
+// so that a longer line needs no test of its own.
+pub fn read_line(weights: &[u64], line: &[u8]) -> Reading
+    requires { ⌜ Weighs (now weights) ⌝ }
     ensures { λ r. ⌜ r ≡ readLine (now (line .entry)) ⌝ }
 {
-    if 80 < line.len() {
-        return Reading::Bad;
+    let n = line.len();
+    if n == 11 {
+        return one_word_frame(digits::hex2(weights, line, 0), word(weights, line, 0));
     }
-    frame_of(line)
+    if n == 2 {
+        return bare_frame(digits::hex2(weights, line, 0));
+    }
+    longer_frame(weights, line)
 }

@@ -7,8 +7,8 @@ use Prim.Native.Nat.{ℕ, _≤_, _-_, _+_}
 use denote.Ref.{now}
 use mathlib.Core.List.{List}
 use borrow.Author.Needs.{needs}
-use Rattle.recorder.proofs.lines.put.Statement.{statement}
-use Rattle.recorder.proofs.lines.put.Tie as tie
+use Rattle.frames.proofs.printing.put_line.Statement.{statement}
+use Rattle.frames.proofs.printing.put_line.Tie as tie
 
 abbrev Inv-loop : tie.InvT-loop
 Inv-loop out₀ at text n k₀ out k = (k ≤ n) × (out ≡ paste out₀ at text k) × (length out ≡ length out₀)
@@ -31,8 +31,8 @@ loop-again c =
 returns : tie.Need-returns Inv-loop μ-loop
 returns c = let e : c .before .loop .k ≡ c .before .before .args .n = omega arith in cc
 
-pub put-spec : {M : Type 1} → statement M
-put-spec =
+pub put-line-spec : {M : Type 1} → statement M
+put-line-spec =
     tie.close
     (tie.spec
     Inv-loop

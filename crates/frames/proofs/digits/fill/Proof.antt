@@ -1,0 +1,40 @@
+use Prim.Native.Nat.{ℕ, _≤_, _-_}
+use mathlib.Core.Path.{_≡_}
+use lib.ListN.{length, length-set}
+use native.Mathlib.Omega.{arith}
+use borrow.Author.Needs.{needs}
+use Rattle.frames.proofs.Filled.{WeighsTo, weighs-more}
+use Rattle.frames.proofs.digits.fill.Statement.{statement}
+use Rattle.frames.proofs.digits.fill.Tie as tie
+
+abbrev Inv-loop : tie.InvT-loop
+Inv-loop t₀ b₀ t b = (length t ≡ 256) × (b ≤ 256) × WeighsTo t b
+
+abbrev μ-loop : tie.MeasureT-loop
+μ-loop t₀ b₀ t b = 256 - b
+
+loop-holds : tie.Need-loop-holds Inv-loop μ-loop
+loop-holds c = (search needs, search needs, λ k h. omega arith)
+
+loop-again : tie.Need-loop-again Inv-loop μ-loop
+loop-again c = (simp length-set (omega arith), omega arith, let l = c .before .before .loop in weighs-more (l .t) (l .b) (c .weight .result) (omega arith) (c .weight .ensures .0) (c .before .before .loop .inv .2))
+
+returns : tie.Need-returns Inv-loop μ-loop
+returns c = record { bytes = c .before .loop .inv .0; each = λ b h. c .before .loop .inv .2 b (omega arith) }
+
+pub fill-spec : {M : Type 1} → statement M
+fill-spec =
+    tie.close
+    (tie.spec
+    Inv-loop
+    μ-loop
+    loop-holds
+    (λ c. search needs)
+    (λ c κs. search needs)
+    (λ c. search needs)
+    (λ c. search needs)
+    (λ c. search needs)
+    (λ c. search needs)
+    loop-again
+    (λ c. search needs)
+    returns)
