@@ -13,7 +13,6 @@ use Rattle.rules.specs.declared.Frame.{Frame}
 use Rattle.rules.specs.declared.Frame.the-variants.{Open, OpenTable, Call}
 use Rattle.frames.specs.Replies.{Gives, sessionOf}
 use Rattle.frames.specs.declared.session.Standing.{Standing}
-use Rattle.frames.specs.declared.session.Replied.{Replied}
 use Rattle.rules.proofs.Answer as answer
 use Rattle.rules.proofs.Frame as frame
 
@@ -25,8 +24,9 @@ not-refused (Held e) k = refl
 not-refused (Gap first count) k = refl
 not-refused Nothing k = refl
 
-pub gives-again : (s : Standing) (queue : List ℕ) (f : Frame) (p : Replied) → OneOf (0 ∷ 1 ∷ []) (tagOf frame.the-type f)
-    → Gives (refusedReply (sessionOf s queue) IllFormed) p queue → Gives (frameReply true (sessionOf s queue) f) p queue
-gives-again s queue (Open plan seed) p k g = g
-gives-again s queue (OpenTable kind letter aql period seed) p k g = g
-gives-again s queue (Call c) p k g = absurd (miss (0 ∷ 1 ∷ []) 2 tt k)
+pub gives-again : (s : Standing) (queue : List ℕ) (f : Frame) (r : Standing) (before : List ℕ) (at : ℕ) (out : List ℕ)
+    → OneOf (0 ∷ 1 ∷ []) (tagOf frame.the-type f)
+    → Gives (refusedReply (sessionOf s queue) IllFormed) r queue before at out → Gives (frameReply true (sessionOf s queue) f) r queue before at out
+gives-again s queue (Open plan seed) r before at out k g = g
+gives-again s queue (OpenTable kind letter aql period seed) r before at out k g = g
+gives-again s queue (Call c) r before at out k g = absurd (miss (0 ∷ 1 ∷ []) 2 tt k)

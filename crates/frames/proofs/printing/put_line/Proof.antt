@@ -11,25 +11,25 @@ use Rattle.frames.proofs.printing.put_line.Statement.{statement}
 use Rattle.frames.proofs.printing.put_line.Tie as tie
 
 abbrev Inv-loop : tie.InvT-loop
-Inv-loop out₀ at text n k₀ out k = (k ≤ n) × (out ≡ paste out₀ at text k) × (length out ≡ length out₀)
+Inv-loop out₀ at line k₀ out k = (k ≤ 33) × (out ≡ paste out₀ at line k) × (length out ≡ length out₀)
 
 abbrev μ-loop : tie.MeasureT-loop
-μ-loop out₀ at text n k₀ out k = n - k
+μ-loop out₀ at line k₀ out k = 33 - k
 
 loop-holds : tie.Need-loop-holds Inv-loop μ-loop
-loop-holds c = (search needs, paste-zero (now (c .args .out)) (c .args .at) (now (c .args .text)), refl)
+loop-holds c = (search needs, paste-zero (now (c .args .out)) (c .args .at) (c .args .t3), refl)
 
 loop-again : tie.Need-loop-again Inv-loop μ-loop
 loop-again c =
-    let l = c .before .before in let a = l .before .args in let k = l .loop .k in let t = now (a .text) in (
+    let l = c .before in let a = l .before .args in let k = l .loop .k in let n : length (a .t3) ≡ 33 = search needs in (
       search needs,
-      (ap (λ (x : List ℕ). set x (a .at + k) (getD t k 0)) (l .loop .inv .1)
-          ∙ rw add-one (paste-suc (now (a .out)) (a .at) t k 0 (omega arith) (omega arith))),
+      (ap (λ (x : List ℕ). set x (a .at + k) (getD (a .t3) k 0)) (l .loop .inv .1)
+          ∙ rw add-one (paste-suc (now (a .out)) (a .at) (a .t3) k 0 (omega arith) (omega arith))),
       simp length-set (l .loop .inv .2),
     )
 
 returns : tie.Need-returns Inv-loop μ-loop
-returns c = let e : c .before .loop .k ≡ c .before .before .args .n = omega arith in cc
+returns c = let e : c .before .loop .k ≡ 33 = omega arith in cc
 
 pub put-line-spec : {M : Type 1} → statement M
 put-line-spec =

@@ -1,3 +1,4 @@
+use mathlib.Core.Path.{refl}
 use mathlib.Core.Bool.{true}
 use Rattle.frames.proofs.Replies.{gives-turn}
 use borrow.Author.Needs.{needs}
@@ -5,7 +6,8 @@ use Rattle.frames.proofs.session.call_reply.Statement.{statement}
 use Rattle.frames.proofs.session.call_reply.Tie as tie
 
 returns : tie.Need-returns
-returns c = gives-turn _ _ _ _ (c .before .before .before .outcome .ensures) true (c .turn-reply .ensures)
+returns c = gives-turn _ _ _ _ _ (c .before .before .before .before .before .before .before .outcome .result) _ (c .before .before .before .before .before .before .before .outcome .ensures) true (refl, c .before .before .put-answer .ensures)
 
 pub call-reply-spec : {M : Type 1} → statement M
-call-reply-spec = tie.close (tie.spec (λ c κs. search needs) (λ c κs. search needs) (λ c. search needs) returns)
+call-reply-spec =
+    tie.close (tie.spec (λ c κs. search needs) (λ c κs. search needs) (λ c. search needs) (λ c. search needs) returns)
