@@ -10,7 +10,7 @@ use lib.ListN.{getD}
 use borrow.Author.Tests.{lt-ltb, le-ltb, lt-leb, le-leb}
 use Rattle.rules.specs.Tests.{pick, _and_}
 use Rattle.rules.specs.Frames.{digit, joined, hex, noNumber}
-use Rattle.frames.specs.Weights.{weight, sum, limited}
+use Rattle.frames.specs.Weights.{weight, sum, limited, Weighs}
 
 false-true : false ≡ true → ⊥
 false-true e = let z : _≡_ {A = ℕ} 0 1 = cc in omega arith
@@ -49,6 +49,18 @@ module _ (b : ℕ) where
       go (no h) (no i) (no j) (yes k) = absurd (false-true (sym (simp (le-leb 65 b (omega arith), lt-ltb b 71 k) at l)))
       go (no h) (no i) (no j) (no k) =
           simp (le-ltb b 48 (omega arith), le-ltb b 58 (omega arith), le-ltb b 65 (omega arith), le-ltb b 71 (omega arith))
+
+  most : weight b ≤ 2 ^ 32
+  unfolding weight
+  most = go (decLt (digit b) 16)
+    where
+      go : Dec (digit b < 16) → weight b ≤ 2 ^ 32
+      go (yes h) = rw (lt-ltb (digit b) 16 h) (omega arith)
+      go (no h) = rw (le-ltb (digit b) 16 (omega arith)) (omega arith)
+
+-- a byte's weight in a table of all
+pub weighs-at : (t : List ℕ) (b : ℕ) → Weighs t → b < 256 → (getD t b 0 ≡ weight b) × (getD t b 0 ≤ 2 ^ 32)
+weighs-at t b w h = (w .each b h, rw (w .each b h) (most b))
 
 below : (v : ℕ) → v < 2 ^ 32 → limited v ≡ v
 unfolding limited
