@@ -8,16 +8,19 @@ use Rattle.frames.proofs.digits.fill.Statement.{statement}
 use Rattle.frames.proofs.digits.fill.Tie as tie
 
 abbrev Inv-loop : tie.InvT-loop
-Inv-loop t₀ b₀ t b = (length t ≡ 256) × (b ≤ 256) × WeighsTo t b
+Inv-loop weights₀ b₀ weights b = (length weights ≡ 256) × (b ≤ 256) × WeighsTo weights b
 
 abbrev μ-loop : tie.MeasureT-loop
-μ-loop t₀ b₀ t b = 256 - b
+μ-loop weights₀ b₀ weights b = 256 - b
 
 loop-holds : tie.Need-loop-holds Inv-loop μ-loop
 loop-holds c = (search needs, search needs, λ k h. omega arith)
 
 loop-again : tie.Need-loop-again Inv-loop μ-loop
-loop-again c = (simp length-set (omega arith), omega arith, let l = c .before .before .loop in weighs-more (l .t) (l .b) (c .weight .result) (omega arith) (c .weight .ensures .0) (c .before .before .loop .inv .2))
+loop-again c =
+    let l = c .before .before .loop in
+    let more = weighs-more (l .weights) (l .b) (c .weight .result) (omega arith) (c .weight .ensures .0) (l .inv .2) in
+    (simp length-set (omega arith), omega arith, more)
 
 returns : tie.Need-returns Inv-loop μ-loop
 returns c = record { bytes = c .before .loop .inv .0; each = λ b h. c .before .loop .inv .2 b (omega arith) }
