@@ -1,5 +1,6 @@
 pub mod HexSum
 pub mod Filled
+pub mod LongLines
 pub mod Plain
 pub mod Replies
 pub mod Variants
