@@ -1,40 +1,38 @@
-use lib.ListN.{length, getD}
-use borrow.Author.Count.{below-more}
 use native.Mathlib.Omega.{arith}
-use mathlib.Core.Path.{_≡_}
-use Prim.Native.Nat.{ℕ, _≤_, _<_, _-_}
 use borrow.Author.Needs.{needs}
-use Rattle.recorder.proofs.lines.line_end.Statement.{statement}
-use Rattle.recorder.proofs.lines.line_end.Tie as tie
+use Rattle.frames.proofs.Plain.{two-end, eleven-end}
+use Rattle.frames.proofs.lines.line_end.Statement.{statement}
+use Rattle.frames.proofs.lines.line_end.Tie as tie
 
-abbrev Inv-loop : tie.InvT-loop
-Inv-loop s from i₀ i = (from ≤ i) × (i ≤ length s) × ((k : ℕ) → k < i → from ≤ k → getD s k 0 ≡ 10 → ⊥)
+returns-3 : tie.Need-returns-3
+returns-3 c = two-end _ _ (c .before .before .if2 .left) (c .if3 .taken) (omega arith)
 
-abbrev μ-loop : tie.MeasureT-loop
-μ-loop s from i₀ i = length s - i
-
-loop-holds : tie.Need-loop-holds Inv-loop μ-loop
-loop-holds c = (search needs, search needs, λ k h l e. omega arith)
-
-returns : tie.Need-returns Inv-loop μ-loop
-returns c = let l = c .before .before .before .loop in record { low = l .inv .0; high = l .inv .1; plain = l .inv .2; feed = λ h. c .if1 .taken }
-
-loop-again : tie.Need-loop-again Inv-loop μ-loop
-loop-again c = (search needs, search needs, below-more _ _ (c .before .before .before .loop .inv .2) (λ h. c .if1 .left))
-
-returns-2 : tie.Need-returns-2 Inv-loop μ-loop
-returns-2 c = let l = c .before .loop in record { low = l .inv .0; high = l .inv .1; plain = l .inv .2; feed = λ h. omega arith }
+returns-5 : tie.Need-returns-5
+returns-5 c =
+    let w = c .before .before in
+    eleven-end _ _ (w .before .before .before .if2 .left) _ (w .before .if3 .left) (w .feed-in-eight .ensures) (c .if4 .left) (omega arith)
 
 pub line-end-spec : {M : Type 1} → statement M
 line-end-spec =
     tie.close
     (tie.spec
-    Inv-loop
-    μ-loop
-    loop-holds
     (λ c. search needs)
-    returns
+    (λ c κs. search needs)
     (λ c. search needs)
     (λ c. search needs)
-    loop-again
-    returns-2)
+    (λ c. search needs)
+    (λ c. search needs)
+    (λ c κs. search needs)
+    (λ c. search needs)
+    (λ c. search needs)
+    (λ c. search needs)
+    (λ c. search needs)
+    returns-3
+    (λ c. search needs)
+    (λ c κs. search needs)
+    (λ c. search needs)
+    (λ c. search needs)
+    (λ c κs. search needs)
+    (λ c. search needs)
+    (λ c. search needs)
+    returns-5)
