@@ -1,5 +1,5 @@
 -- A number is its digits' weights summed, limited to 2^32. Assumes nothing.
-use mathlib.Core.Path.{_≡_, refl, sym, _∙_}
+use mathlib.Core.Path.{_≡_, refl, sym}
 use mathlib.Core.Bool.{true, false}
 use mathlib.Core.List.{List}
 use Prim.Native.Nat.{ℕ, zero, suc, _+_, _-_, _*_, _<_, _≤_, _^_}
@@ -8,7 +8,7 @@ use native.Mathlib.Omega.{arith}
 use lib.Dec.{ltb, leb}
 use lib.ListN.{getD}
 use borrow.Author.Tests.{lt-ltb, le-ltb, lt-leb, le-leb}
-use Rattle.rules.specs.Tests.{pick, _and_}
+use Rattle.rules.specs.Tests.{_and_}
 use Rattle.rules.specs.Frames.{digit, joined, hex, noNumber}
 use Rattle.frames.specs.Weights.{weight, sum, limited, Weighs}
 

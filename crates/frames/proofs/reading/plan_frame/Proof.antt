@@ -1,7 +1,6 @@
 use Rattle.rules.specs.Tests.{_and_}
 use Rattle.rules.specs.Frames.{planFrame}
 use borrow.Author.Tests.{eq-eqb, ne-eqb}
-use borrow.Author.Needs.{needs}
 use Rattle.frames.proofs.reading.plan_frame.Statement.{statement}
 use Rattle.frames.proofs.reading.plan_frame.Tie as tie
 
