@@ -187,3 +187,7 @@ pub gone-last : (text : List ℕ) (from room : ℕ) → (length text ≤ from) �
 unfolding gone
 gone-last text from room (inl h) = gone-none room 0 (drop from text) (λ k l q. let i = simp length-drop at l in omega arith)
 gone-last text from room (inr e) = rw e
+
+pub all-gone : (text : List ℕ) (from left : ℕ) → (length text ≤ from) ⊎ (left / 33 ≡ 0) → 33 ≤ left → NoFeed (drop from text)
+all-gone text from left (inl h) r k l q = let i = simp length-drop at l in omega arith
+all-gone text from left (inr e) r k l q = omega arith

@@ -8,7 +8,7 @@ use mathlib.Core.Path.{_≡_, refl, sym, ap, _∙_}
 use borrow.Author.Needs.{needs}
 use Rattle.frames.specs.Course.{walk, gone}
 use Rattle.frames.specs.Replies.{sessionOf}
-use Rattle.frames.proofs.Walking.{goes-on, stops, behind, went, gone-on, gone-none, gone-last, unended}
+use Rattle.frames.proofs.Walking.{goes-on, stops, behind, went, gone-on, gone-none, gone-last, all-gone, unended}
 use Rattle.frames.proofs.text.walk_lines.Statement.{statement}
 use Rattle.frames.proofs.text.walk_lines.Tie as tie
 
@@ -32,8 +32,9 @@ tested c = goes-on _ _ _ (c .loop-test .taken)
 returns : tie.Need-returns Inv-loop μ-loop
 returns c =
     let l = c .before .before .before .loop in let a = c .before .before .before .before .before .before .before .before .args in
-    let z = gone-none ((length (now (a .out)) - l .at) / 33) 0 (drop (l .from) (now (a .text))) (unended (now (a .text)) (l .from) (c .before .line-end .result) (c .before .line-end .ensures) (c .if1 .taken)) in
-    record { from = omega (arith, l .inv .1, z); course = l .inv .0; room = omega (arith, l .inv); rest = l .inv .5 }
+    let f = unended (now (a .text)) (l .from) (c .before .line-end .result) (c .before .line-end .ensures) (c .if1 .taken) in
+    let z = gone-none ((length (now (a .out)) - l .at) / 33) 0 (drop (l .from) (now (a .text))) f in
+    record { from = omega (arith, l .inv .1, z); course = l .inv .0; room = omega (arith, l .inv); rest = l .inv .5; all = λ h. f }
 
 step-requires : tie.Need-step-requires Inv-loop μ-loop
 step-requires c κs = (c .before .before .before .before .before .before .before .before .before .before .before .pre, omega (arith, tested (c .before .before .before .before .before) .1, c .before .before .before .before .before .before .loop .inv))
@@ -68,8 +69,10 @@ loop-again c =
 returns-2 : tie.Need-returns-2 Inv-loop μ-loop
 returns-2 c =
     let l = c .before .loop in let a = c .before .before .before .before .before .before .args in
-    let z = gone-last (now (a .text)) (l .from) ((length (now (a .out)) - l .at) / 33) (rw (← l .inv .4) (stops (l .from) (length (now (a .text))) (length (l .out) - l .at) (c .loop-test .left))) in
-    record { from = omega (arith, l .inv .1, z); course = l .inv .0; room = omega (arith, l .inv); rest = l .inv .5 }
+    let left = length (now (a .out)) - l .at in
+    let t = rw (l .inv .4) at (stops (l .from) (length (now (a .text))) (length (l .out) - l .at) (c .loop-test .left)) in
+    let z = gone-last (now (a .text)) (l .from) (left / 33) t in
+    record { from = omega (arith, l .inv .1, z); course = l .inv .0; room = omega (arith, l .inv); rest = l .inv .5; all = all-gone (now (a .text)) (l .from) left t }
 
 pub walk-lines-spec : {M : Type 1} → statement M
 walk-lines-spec =
