@@ -27,6 +27,7 @@ use rules::Waiting;
 ghost use mathlib.Core.Path.{_≡_};
 ghost use mathlib.Core.Bool.{true, false};
 ghost use Prim.Native.Nat.{_+_, _≤_, _<_};
+ghost use Rattle.rules.specs.Tests.{pick};
 ghost use Rattle.rules.specs.Stream.{freshStream, missedTally, withTally, restarted, jumped, arrived, arrivedTally, arrivedStream, handled, unitRule, resultPhase, resultTally, resultMoved, resultRule, withPhase, interruptRule, findRule, withSilence, tickRule};
 ghost use Rattle.rules.specs.Plan.{unitLimit, eventLimit, highestUnit};
 ghost use Rattle.rules.proofs.Facts.{PlanFacts, StreamFacts};
@@ -55,13 +56,20 @@ pub fn fresh_stream(p: Plan, seed: u32) -> Stream
     }
 }
 
+// A struct is built from its fields, never copied and changed: a copy is moved in pieces of 8 bytes, which are packed and
+// unpacked at every call.
 fn missed_tally(k: u32, t: Tally) -> Tally
     requires { ⌜ (t .last < k) × (k ≤ highestUnit) × (t .missed ≤ highestUnit) ⌝ }
     ensures { λ r. ⌜ r ≡ missedTally k t ⌝ }
 {
-    let mut missed = t;
-    missed.missed = t.missed + (k - (t.last + 1));
-    missed
+    Tally {
+        conforming: t.conforming,
+        defective: t.defective,
+        passed: t.passed,
+        missed: t.missed + (k - (t.last + 1)),
+        owed: t.owed,
+        last: t.last,
+    }
 }
 
 fn with_phase(phase: Phase, s: Stream) -> Stream
@@ -84,9 +92,18 @@ fn with_phase(phase: Phase, s: Stream) -> Stream
 fn with_tally(tally: Tally, s: Stream) -> Stream
     ensures { λ r. ⌜ r ≡ withTally tally s ⌝ }
 {
-    let mut left = s;
-    left.tally = tally;
-    left
+    let plan = s.plan;
+    let waiting = s.waiting;
+    let phase = s.phase;
+    let silence = s.silence;
+    Stream {
+        plan,
+        waiting,
+        phase,
+        tally,
+        silence,
+        generator: s.generator,
+    }
 }
 
 // A new screening sequence; one that ends sampling takes up a plan that waits.
@@ -140,18 +157,32 @@ fn arrive(p: Plan, s: u32, phase: Phase) -> Arrived
     }
 }
 
+fn one_more_if(test: bool, count: u32) -> u32
+    requires { ⌜ count ≤ highestUnit ⌝ }
+    ensures { λ r. ⌜ r ≡ pick test (count + 1) count ⌝ }
+{
+    if test { count + 1 } else { count }
+}
+
+fn one_more_unless(test: bool, count: u32) -> u32
+    requires { ⌜ count ≤ highestUnit ⌝ }
+    ensures { λ r. ⌜ r ≡ pick test count (count + 1) ⌝ }
+{
+    if test { count } else { count + 1 }
+}
+
 fn arrived_tally(k: u32, inspect: bool, t: Tally) -> Tally
     requires { ⌜ t .passed ≤ highestUnit ⌝ }
     ensures { λ r. ⌜ r ≡ arrivedTally k inspect t ⌝ }
 {
-    let mut arrived = t;
-    arrived.owed = inspect;
-    arrived.last = k;
-    if inspect {
-        return arrived;
+    Tally {
+        conforming: t.conforming,
+        defective: t.defective,
+        passed: one_more_unless(inspect, t.passed),
+        missed: t.missed,
+        owed: inspect,
+        last: k,
     }
-    arrived.passed = t.passed + 1;
-    arrived
 }
 
 fn arrived_stream(k: u32, a: Arrived, s: Stream) -> Stream
@@ -236,14 +267,14 @@ fn result_tally(r: u32, t: Tally) -> Tally
     requires { ⌜ (t .conforming ≤ highestUnit) × (t .defective ≤ highestUnit) ⌝ }
     ensures { λ q. ⌜ q ≡ resultTally r t ⌝ }
 {
-    let mut judged = t;
-    judged.owed = false;
-    if r == 0 {
-        judged.conforming = t.conforming + 1;
-        return judged;
+    Tally {
+        conforming: one_more_if(r == 0, t.conforming),
+        defective: one_more_unless(r == 0, t.defective),
+        passed: t.passed,
+        missed: t.missed,
+        owed: false,
+        last: t.last,
     }
-    judged.defective = t.defective + 1;
-    judged
 }
 
 fn result_moved(r: u32, m: Moved, s: Stream) -> Ruled
@@ -306,9 +337,18 @@ fn with_silence(ticks: u32, s: Stream) -> Stream
         ticks,
         heard: false,
     };
-    let mut left = s;
-    left.silence = silence;
-    left
+    let plan = s.plan;
+    let waiting = s.waiting;
+    let phase = s.phase;
+    let tally = s.tally;
+    Stream {
+        plan,
+        waiting,
+        phase,
+        tally,
+        silence,
+        generator: s.generator,
+    }
 }
 
 pub fn tick_rule(s: Stream) -> Ruled

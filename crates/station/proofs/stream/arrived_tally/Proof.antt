@@ -5,11 +5,7 @@ use Rattle.station.proofs.stream.arrived_tally.Tie as tie
 
 returns : tie.Need-returns
 unfolding arrivedTally
-returns c = simp (c .if1 .taken)
-
-returns-2 : tie.Need-returns-2
-unfolding arrivedTally
-returns-2 c = simp (c .before .if1 .left)
+returns c = cc
 
 pub arrived-tally-spec : {M : Type 1} → statement M
-arrived-tally-spec = tie.close (tie.spec returns (λ c. search needs) returns-2)
+arrived-tally-spec = tie.close (tie.spec (λ c κs. search needs) returns)
