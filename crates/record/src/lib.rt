@@ -1,5 +1,6 @@
-// Document 01, "Plan numbers" and "A sound record": total tests of a plan and of a record. They have no
-// branch where they can do without, so that every call pays the same for them.
+// Document 01, "Plan numbers" and "A sound record": total tests of a plan and of a record. They go by the type of plan and
+// return early where one fails. Every call tests the record, and the record is sound: it takes none of these returns and
+// makes the tests of its own type alone, which is fewer instructions than all of them joined without a branch.
 use rules::CLEARANCE_LIMIT;
 use rules::CSP_2;
 use rules::CSP_F;
@@ -18,11 +19,13 @@ use rules::Station;
 use rules::Tally;
 use rules::Waiting;
 ghost use mathlib.Core.Path.{_≡_};
+ghost use mathlib.Core.Bool.{not};
 ghost use Prim.Native.Nat.{_+_, _≤_};
-ghost use Rattle.rules.specs.Tests.{pick, within};
-ghost use Rattle.rules.specs.Plan.{inRange, unitLimit, roomInRange};
+ghost use lib.Dec.{eqb};
+ghost use Rattle.rules.specs.Tests.{pick, within, _and_};
+ghost use Rattle.rules.specs.Plan.{csp1, cspV, clearanceLimit, inRange, unitLimit, roomInRange};
 ghost use Rattle.rules.specs.Change.{notAllowed};
-ghost use Rattle.rules.specs.Sound.{one, soundTally, soundNeed, soundScreening, soundLevel, soundPlaces, rowCounts, levelBegins, soundBegin, soundRow, soundWatch, soundSampling, soundPhase, onItsSide, soundNext, soundWaiting, soundNumbers, soundSilence, sound};
+ghost use Rattle.rules.specs.Sound.{one, soundTally, soundNeed, soundScreening, soundPlaces, rowCounts, levelBegins, soundBegin, soundWatch, soundSampling, soundPhase, onItsSide, soundNext, soundWaiting, soundNumbers, soundSilence, sound};
 
 fn picked(test: bool, yes: bool, no: bool) -> bool
     ensures { λ r. ⌜ r ≡ pick test yes no ⌝ }
@@ -36,20 +39,27 @@ fn in_bounds(low: u32, x: u32, high: u32) -> bool
     (low <= x) & (x <= high)
 }
 
+// The ranges that every type of plan has: of the type, of n and of i.
+fn common_in_range(p: Plan) -> bool
+    ensures { λ r. ⌜ r ≡ (within csp1 (p .kind) cspV and within 2 (p .n) 200 and within 1 (p .i) clearanceLimit) ⌝ }
+{
+    in_bounds(1, p.kind, CSP_V) & in_bounds(2, p.n, 200) & in_bounds(1, p.i, CLEARANCE_LIMIT)
+}
+
 // Is every plan number in its range?
 pub fn in_range(p: Plan) -> bool
     ensures { λ r. ⌜ r ≡ inRange p ⌝ }
 {
-    in_bounds(1, p.kind, CSP_V)
-        & in_bounds(2, p.n, 200)
-        & in_bounds(1, p.i, CLEARANCE_LIMIT)
-        & picked(p.kind == CSP_F, p.s == 0, in_bounds(p.i, p.s, LONG_LIMIT))
-        & picked(p.kind == CSP_V, in_bounds(1, p.x, p.i), p.x == 0)
-        & picked(
-            p.kind == CSP_F,
-            in_bounds(1, p.period, HIGHEST_UNIT),
-            p.period == 0,
-        )
+    if !common_in_range(p) {
+        return false;
+    }
+    if p.kind == CSP_F {
+        return (p.s == 0) & (p.x == 0) & in_bounds(1, p.period, HIGHEST_UNIT);
+    }
+    if p.kind == CSP_V {
+        return in_bounds(p.i, p.s, LONG_LIMIT) & in_bounds(1, p.x, p.i) & (p.period == 0);
+    }
+    in_bounds(p.i, p.s, LONG_LIMIT) & (p.x == 0) & (p.period == 0)
 }
 
 // The highest unit number of a plan.
@@ -115,12 +125,6 @@ fn sound_screening(p: Plan, t: Tally, c: Screening) -> bool
         & (c.unrecalled <= t.conforming)
 }
 
-fn sound_level(p: Plan, level: u32) -> bool
-    ensures { λ r. ⌜ r ≡ soundLevel p level ⌝ }
-{
-    picked(p.kind == CSP_T, level <= 2, level == 0)
-}
-
 fn sound_places(len: u64, owed: bool, m: Sampling) -> bool
     ensures { λ r. ⌜ r ≡ soundPlaces len owed m ⌝ }
 {
@@ -148,34 +152,37 @@ fn sound_begin(p: Plan, owed: bool, m: Sampling) -> bool
     !level_begins(p, owed, m) | (m.chosen == 0)
 }
 
-fn sound_row(p: Plan, m: Sampling) -> bool
-    ensures { λ r. ⌜ r ≡ soundRow p m ⌝ }
+fn unwatched(m: Sampling) -> bool
+    ensures { λ r. ⌜ r ≡ (not (m .watch) and eqb (m .watched) 0) ⌝ }
 {
-    picked(
-        (p.kind == CSP_T) & (m.level < 2),
-        m.row < p.i,
-        picked(p.kind == CSP_V, m.row <= p.i, m.row == 0),
-    )
+    !m.watch & (m.watched == 0)
 }
 
 fn sound_watch(p: Plan, m: Sampling) -> bool
     ensures { λ r. ⌜ r ≡ soundWatch p m ⌝ }
 {
-    picked(
-        (p.kind == CSP_2) & m.watch,
-        m.watched < p.i,
-        !m.watch & (m.watched == 0),
-    )
+    picked((p.kind == CSP_2) & m.watch, m.watched < p.i, unwatched(m))
 }
 
 fn sound_sampling(p: Plan, t: Tally, m: Sampling) -> bool
     ensures { λ r. ⌜ r ≡ soundSampling p t m ⌝ }
 {
-    sound_level(p, m.level)
-        & sound_places(draw::block_length(p, m.level), t.owed, m)
-        & sound_begin(p, t.owed, m)
-        & sound_row(p, m)
-        & sound_watch(p, m)
+    if !sound_places(draw::block_length(p, m.level), t.owed, m) {
+        return false;
+    }
+    if p.kind == CSP_T {
+        return (m.level <= 2)
+            & sound_begin(p, t.owed, m)
+            & picked(m.level < 2, m.row < p.i, m.row == 0)
+            & unwatched(m);
+    }
+    if m.level != 0 {
+        return false;
+    }
+    if p.kind == CSP_V {
+        return sound_begin(p, t.owed, m) & (m.row <= p.i) & unwatched(m);
+    }
+    (m.row == 0) & sound_watch(p, m)
 }
 
 fn sound_phase(p: Plan, t: Tally, phase: Phase) -> bool
@@ -243,10 +250,20 @@ pub fn is_sound(s: Station) -> bool
     let phase = stream.phase;
     let silence = stream.silence;
     let n = s.numbers;
-    in_range(p)
-        & sound_waiting(p, phase, waiting)
-        & sound_tally(p, tally)
-        & sound_phase(p, tally, phase)
-        & sound_numbers(s.room, n)
-        & sound_silence(silence, n)
+    if !in_range(p) {
+        return false;
+    }
+    if !sound_waiting(p, phase, waiting) {
+        return false;
+    }
+    if !sound_tally(p, tally) {
+        return false;
+    }
+    if !sound_phase(p, tally, phase) {
+        return false;
+    }
+    if !sound_numbers(s.room, n) {
+        return false;
+    }
+    sound_silence(silence, n)
 }

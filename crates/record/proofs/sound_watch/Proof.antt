@@ -6,7 +6,7 @@ use Rattle.record.proofs.sound_watch.Tie as tie
 
 returns : tie.Need-returns
 unfolding _and_ soundWatch
-returns c = search needs
+returns c = cc
 
 pub sound-watch-spec : {M : Type 1} → statement M
-sound-watch-spec = tie.close (tie.spec (λ c κs. search needs) returns)
+sound-watch-spec = tie.close (tie.spec (λ c κs. search needs) (λ c κs. search needs) returns)
