@@ -96,13 +96,14 @@ fn with_tally(tally: Tally, s: Stream) -> Stream
     let waiting = s.waiting;
     let phase = s.phase;
     let silence = s.silence;
+    let generator = s.generator;
     Stream {
         plan,
         waiting,
         phase,
         tally,
         silence,
-        generator: s.generator,
+        generator,
     }
 }
 
@@ -267,12 +268,13 @@ fn result_tally(r: u32, t: Tally) -> Tally
     requires { ⌜ (t .conforming ≤ highestUnit) × (t .defective ≤ highestUnit) ⌝ }
     ensures { λ q. ⌜ q ≡ resultTally r t ⌝ }
 {
+    let owed = false;
     Tally {
         conforming: one_more_if(r == 0, t.conforming),
         defective: one_more_unless(r == 0, t.defective),
         passed: t.passed,
         missed: t.missed,
-        owed: false,
+        owed,
         last: t.last,
     }
 }
@@ -333,7 +335,7 @@ pub fn find_rule(s: Stream) -> Ruled
 fn with_silence(ticks: u32, s: Stream) -> Stream
     ensures { λ r. ⌜ r ≡ withSilence (record { ticks = ticks; heard = false }) s ⌝ }
 {
-    let silence = Silence {
+    let left = Silence {
         ticks,
         heard: false,
     };
@@ -341,13 +343,14 @@ fn with_silence(ticks: u32, s: Stream) -> Stream
     let waiting = s.waiting;
     let phase = s.phase;
     let tally = s.tally;
+    let state = s.generator;
     Stream {
         plan,
         waiting,
         phase,
         tally,
-        silence,
-        generator: s.generator,
+        silence: left,
+        generator: state,
     }
 }
 
