@@ -123,6 +123,18 @@ gone-none (suc room) since [] f = refl
 gone-none (suc room) since (b ∷ d) f =
     rw (ne-eqb b 10 (f 0 (omega arith))) (gone-none (suc room) (since + 1) d (λ k h. f (suc k) (omega arith)))
 
+-- no more is gone over than there is
+pub gone-most : (room since : ℕ) (d : List ℕ) → gone room since d ≤ since + length d
+unfolding gone
+gone-most zero since d = omega arith
+gone-most (suc room) since [] = omega arith
+gone-most (suc room) since (b ∷ d) = go (eqb b 10) (gone-most room 0 d) (gone-most (suc room) (since + 1) d)
+  where
+    go : (t : Bool) → gone room 0 d ≤ 0 + length d → gone (suc room) (since + 1) d ≤ since + 1 + length d
+        → pick t (since + 1 + gone room 0 d) (gone (suc room) (since + 1) d) ≤ since + length (b ∷ d)
+    go true h k = omega arith
+    go false h k = omega arith
+
 module _ (text : List ℕ) (from end : ℕ) (e : LineEnd text from end) where
   plain : NoFeed (take (end - from) (drop from text))
   plain k h q =

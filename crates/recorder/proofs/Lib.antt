@@ -1,3 +1,5 @@
-pub mod Walking
+pub mod Alike
 pub mod Output
+pub mod Moving
 pub mod Running
+pub mod Turning

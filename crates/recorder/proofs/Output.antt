@@ -12,10 +12,12 @@ use Rattle.rules.specs.Tests.{pick}
 use Rattle.rules.specs.Frames.{reply, newSession, lastText, linesOf, cutAt, joinedTo, output, program}
 use Rattle.rules.specs.declared.Reply.{Reply}
 use Rattle.rules.specs.declared.Session.{Session}
-use Rattle.recorder.specs.Course.{Course, heldMost, after, walk, turn, turns, course, answers, whole}
+use Rattle.frames.specs.Course.{Course, after, walk}
+use Rattle.frames.proofs.Walking.{joined}
+use Rattle.recorder.specs.Course.{heldMost, turn, turns, course, answers, whole}
 use Rattle.recorder.specs.Turns.{Turns, Ran}
 use Rattle.recorder.specs.declared.Turned.{Turned}
-use Rattle.recorder.proofs.Walking.{reply-held}
+use Rattle.recorder.proofs.Alike.{reply-held}
 
 -- there is always a last line
 record Lines (lines : List (List ℕ)) : Type 0 where
@@ -103,22 +105,6 @@ alike s p q (b ∷ d) e = go (eqb b 10) (alike s (p ++ b ∷ []) (q ++ b ∷ [])
         ≡ final (pick t (after (reply s q .text) (walk (reply s q .session) [] d)) (walk s (q ++ b ∷ []) d))
     go true going = ap (λ (r : Reply). final (after (r .text) (walk (r .session) [] d))) (alike-reply s p q e)
     go false going = going
-
-joined : (s : Session) (line a d : List ℕ)
-    → walk s line (a ++ d) ≡ after (walk s line a .text) (walk (walk s line a .session) (walk s line a .line) d)
-unfolding walk
-joined s line [] d = refl
-joined s line (b ∷ a) d = go (eqb b 10) (joined (reply s line .session) [] a d) (joined s (line ++ b ∷ []) a d)
-  where
-    at : (t : Bool) → List ℕ → Course
-    at t x = pick t (after (reply s line .text) (walk (reply s line .session) [] x)) (walk s (line ++ b ∷ []) x)
-
-    Joined : Session → List ℕ → Type 0
-    Joined s line = walk s line (a ++ d) ≡ after (walk s line a .text) (walk (walk s line a .session) (walk s line a .line) d)
-
-    go : (t : Bool) → Joined (reply s line .session) [] → Joined s (line ++ b ∷ []) → at t (a ++ d) ≡ after (at t a .text) (walk (at t a .session) (at t a .line) d)
-    go true ended going = rw (ended, append-assoc)
-    go false ended going = going
 
 -- the turns in a row, and the end of the input after them
 in-turns : (s : Session) (line : List ℕ) (parts : List (List ℕ)) → final (turns s line parts) ≡ final (walk s line (whole parts))

@@ -1,20 +1,24 @@
 // Frames from standard input, one a line; the answer to each goes to standard output as soon as its line has ended.
-mod lines;
-mod walk;
+mod held;
 
 use frames::Standing;
+use frames::Walked;
+use held::keep;
+use held::put;
 use libc::STDIN_FILENO;
 use libc::STDOUT_FILENO;
-use walk::answered;
-ghost use mathlib.Core.Bool.{true};
+use rules::Answer;
+use rules::Refusal;
+ghost use mathlib.Core.Bool.{true, false};
+ghost use mathlib.Core.List.{_++_};
 ghost use mathlib.Core.Path.{_≡_};
-ghost use Prim.Native.Nat.{_*_, _≤_};
+ghost use Prim.Native.Nat.{_+_, _≤_};
 ghost use lib.IntN.{pos};
 ghost use lib.ListN.{length, take};
-ghost use Rattle.rules.specs.Frames.{newSession};
+ghost use Rattle.rules.specs.Frames.{newSession, lastText};
 ghost use Rattle.frames.specs.Replies.{sessionOf, newStanding};
-ghost use Rattle.recorder.specs.Course.{heldMost, turn};
-ghost use Rattle.recorder.specs.Turns.{Moves, Hands, Turns, Ran};
+ghost use Rattle.recorder.specs.Course.{heldMost};
+ghost use Rattle.recorder.specs.Turns.{Moves, Brings, Hands, Answers, noRoom, held, left, Ready, Goes, Ran};
 
 // What a read or a write moved, and whether it was the last: at the end of the input, or where it failed.
 struct Moved {
@@ -28,11 +32,12 @@ struct Handed {
     all: bool,
 }
 
-// Where the program stands after a turn: held is how much is held of a line that has not ended, came what the turn's read brought,
-// handed what the writes took of the turn's text.
+// Where the program stands after a turn: the first bytes of the text have come and are not answered; more is whether an answer had no
+// room, so that lines may be left among them; came what the turn's read brought, handed what the writes took of the turn's answers.
 struct Turned {
     standing: Standing,
-    held: usize,
+    to: usize,
+    more: bool,
     came: Moved,
     handed: Handed,
 }
@@ -86,41 +91,102 @@ fn write_all(text: &[u8]) -> Handed
     }
 }
 
-// What a read brought, and the answers to the lines that it ended in one write.
-fn turn(
+// What the next read brings; while lines are left, nothing is read, since their peer waits.
+fn brought(more: bool, chunk: &mut [u8]) -> Moved
+    ensures { λ r. ⌜ Brings more (length (now (chunk .entry))) r ⌝ }
+{
+    if more {
+        return Moved {
+            bytes: 0,
+            over: false,
+        };
+    }
+    let got = libc::read(STDIN_FILENO, chunk);
+    came_to(got, chunk)
+}
+
+// The answer to a last line without line feed, which is ill-formed; an empty one is none.
+fn end(line: &[u8], out: &mut [u8]) -> usize
+    requires { ⌜ 33 ≤ length (now out) ⌝ }
+    ensures { λ r. ⌜ (r ≤ length (now (out .exit))) × (take r (now (out .exit)) ≡ lastText (now (line .entry))) ⌝ }
+{
+    if line.len() == 0 {
+        return 0;
+    }
+    let answer = frames::answer_line(Answer::Refused(Refusal::IllFormed));
+    put(out, 0, &answer, 33);
+    33
+}
+
+// What is answered in a turn: the lines that end in the text, and at the end of the input the line that is left.
+fn answered(
     standing: Standing,
     q: &mut [u32],
-    held: usize,
-    got: isize,
+    weights: &mut [u64; 256],
+    text: &[u8],
+    over: bool,
+    out: &mut [u8],
+) -> Walked
+    requires { ⌜ 33 ≤ length (now out) ⌝ }
+    ensures { λ r. ⌜ Answers over (sessionOf standing (now (q .entry))) (now (text .entry)) r (now (q .exit)) (now (out .entry)) (now (out .exit)) ⌝ }
+{
+    if over {
+        let last = end(text, out);
+        return Walked {
+            standing,
+            from: 0,
+            at: last,
+        };
+    }
+    frames::walk(standing, q, weights, text, out)
+}
+
+// Whether an answer had no room, in a turn that is not the last.
+fn no_room(over: bool, len: usize, at: usize) -> bool
+    requires { ⌜ at ≤ len ⌝ }
+    ensures { λ r. ⌜ r ≡ noRoom over len at ⌝ }
+{
+    !over & (len - at < 33)
+}
+
+// What a read brought, and the answers to the lines that it ended in one write.
+fn turn(
+    before: Turned,
+    q: &mut [u32],
+    weights: &mut [u64; 256],
+    came: Moved,
     chunk: &[u8],
-    line: &mut [u8],
+    text: &mut [u8],
     out: &mut [u8],
 ) -> Turned
-    requires { ⌜ (length (now line) ≡ heldMost) × (held ≤ heldMost) × (33 * length (now chunk) ≤ length (now out)) × (33 ≤ length (now out)) ⌝ }
-    ensures { λ r. ⌜ Moves got (length (now (chunk .entry))) (r .came) × Turns (turn (r .came .over) (sessionOf standing (now (q .entry))) (take held (now (line .entry))) (take (r .came .bytes) (now (chunk .entry)))) r (now (q .exit)) (now (line .exit)) (now (out .exit)) ⌝ }
+    requires { ⌜ Ready before (now text) × Brings (before .more) (length (now chunk)) came × (length (now text) ≡ heldMost + length (now chunk)) × (33 ≤ length (now out)) ⌝ }
+    ensures { λ r. ⌜ (r .came ≡ came) × Goes (sessionOf (before .standing) (now (q .entry))) (take (held before) (now (text .entry))) (left before (now (text .entry)) ++ take (came .bytes) (now (chunk .entry))) r (now (q .exit)) (now (text .exit)) (now (out .exit)) ⌝ }
 {
-    let came = came_to(got, chunk);
-    let n = came.bytes;
-    let w = answered(standing, q, line, held, &chunk[0..n], came.over, out);
+    put(text, before.to, chunk, came.bytes);
+    let to = before.to + came.bytes;
+    let w = answered(before.standing, q, weights, &text[0..to], came.over, out);
     let at = w.at;
     let handed = write_all(&out[0..at]);
-    let s = w.standing;
+    let more = no_room(came.over, out.len(), at);
+    let standing = w.standing;
     Turned {
-        standing: s,
-        held: w.held,
-        came: came,
-        handed: handed,
+        standing,
+        to: keep(text, w.from, to, more),
+        more,
+        came,
+        handed,
     }
 }
 
 // Before the first read.
 fn start() -> Turned
-    ensures { λ r. ⌜ (r .standing ≡ newStanding) × (r .held ≡ 0) ⌝ }
+    ensures { λ r. ⌜ (r .standing ≡ newStanding) × (r .to ≡ 0) × (r .more ≡ false) ⌝ }
 {
     let standing = frames::new_standing();
     Turned {
-        standing: standing,
-        held: 0,
+        standing,
+        to: 0,
+        more: false,
         came: Moved {
             bytes: 0,
             over: false,
@@ -133,15 +199,21 @@ fn start() -> Turned
 }
 
 // The turns to the last: at the end of the input, or where a write failed. They are counted for the proof alone, as in write_all.
-fn run(q: &mut [u32], chunk: &mut [u8], line: &mut [u8], out: &mut [u8]) -> Turned
-    requires { ⌜ (now q ≡ newSession .queue) × (length (now line) ≡ heldMost) × (33 * length (now chunk) ≤ length (now out)) × (33 ≤ length (now out)) ⌝ }
-    ensures { λ r. ⌜ Ran r (now (q .exit)) (now (line .exit)) (now (out .exit)) ⌝ }
+fn run(
+    q: &mut [u32],
+    weights: &mut [u64; 256],
+    chunk: &mut [u8],
+    text: &mut [u8],
+    out: &mut [u8],
+) -> Turned
+    requires { ⌜ (now q ≡ newSession .queue) × (length (now text) ≡ heldMost + length (now chunk)) × (33 ≤ length (now out)) ⌝ }
+    ensures { λ r. ⌜ Ran r (now (q .exit)) (now (text .exit)) (now (out .exit)) ⌝ }
 {
     let mut turns = u64::MAX;
     let mut t = start();
     loop {
-        let got = libc::read(STDIN_FILENO, chunk);
-        t = turn(t.standing, q, t.held, got, chunk, line, out);
+        let came = brought(t.more, chunk);
+        t = turn(t, q, weights, came, chunk, text, out);
         let last = t.came.over | !t.handed.all | (turns == 0);
         if last {
             return t;
@@ -150,23 +222,32 @@ fn run(q: &mut [u32], chunk: &mut [u8], line: &mut [u8], out: &mut [u8]) -> Turn
     }
 }
 
-fn chunk_space() -> [u8; 16384]
-    ensures { λ r. ⌜ length r ≡ 16384 ⌝ }
+// A read's bytes, and what was held of a line before it with them.
+fn chunk_space() -> [u8; 8192]
+    ensures { λ r. ⌜ length r ≡ 8192 ⌝ }
 {
-    [0; 16384]
+    [0; 8192]
 }
 
-// Room for the answers to a chunk that is all line feeds.
-fn out_space() -> [u8; 540672]
-    ensures { λ r. ⌜ length r ≡ 540672 ⌝ }
+fn text_space() -> [u8; 8273]
+    ensures { λ r. ⌜ length r ≡ heldMost + 8192 ⌝ }
 {
-    [0; 540672]
+    [0; 8273]
+}
+
+// The answers to a chunk of common frames. Where more are due they go out in several writes: room for the most that there can be would
+// take longer to clear than all else that the program does before its first read.
+fn out_space() -> [u8; 32769]
+    ensures { λ r. ⌜ length r ≡ 32769 ⌝ }
+{
+    [0; 32769]
 }
 
 fn main() {
     let mut chunk = chunk_space();
+    let mut text = text_space();
     let mut out = out_space();
-    let mut line = [0u8; 81];
     let mut queue = frames::new_queue();
-    run(&mut queue, &mut chunk, &mut line, &mut out);
+    let mut weights = [0u64; 256];
+    run(&mut queue, &mut weights, &mut chunk, &mut text, &mut out);
 }

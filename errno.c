@@ -1,0 +1,2 @@
+#include <errno.h>
+int rattle_errno(void){return errno;}
