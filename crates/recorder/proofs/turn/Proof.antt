@@ -1,77 +1,45 @@
+use Prim.Native.Nat.{_+_, _≤_, _<_, _^_}
+use mathlib.Core.Path.{refl}
+use native.Mathlib.Nat.{sub-zero}
+use native.Mathlib.Omega.{arith}
+use denote.Ref.{now}
+use lib.ListN.{length, length-take}
+use Rattle.frames.specs.Replies.{sessionOf}
+use Rattle.recorder.proofs.Turning.{room-for, gone-within, turns-on}
 use borrow.Author.Needs.{needs}
 use Rattle.recorder.proofs.turn.Statement.{statement}
 use Rattle.recorder.proofs.turn.Tie as tie
-use Rattle.recorder.proofs.turn.Reads as reads
-use Rattle.recorder.proofs.turn.Lts as lts
-use Rattle.recorder.proofs.answered.Reads as answered-reads
-use Rattle.recorder.proofs.held.keep.Reads as keep-reads
-use Rattle.recorder.proofs.held.put.Reads as put-reads
-use Rattle.recorder.proofs.no_room.Reads as no-room-reads
-use Rattle.recorder.proofs.write_all.Reads as write-all-reads
 
--- src/main.rt:165:5
+room : (c : tie.Start) → (c .args .before .to + c .args .came .bytes ≤ length (now (c .args .text))) × (c .args .came .bytes ≤ length (now (c .args .chunk)))
+room c = room-for (c .args .before) (now (c .args .text)) (length (now (c .args .chunk))) (c .args .came) (c .pre .0) (c .pre .1) (c .pre .2)
+
 put-requires : tie.Need-put-requires
-put-requires c κs = ?
+put-requires c κs = room (c .before .before .before .before .before)
 
--- src/main.rt:166:14
 add-to : tie.Need-add-to
-add-to c = ?
+add-to c = omega (arith, room (c .before .before .before .before .before .before .before .before .before .before), c .before .before .before .before .before .before .before .before .before .before .good)
 
--- src/main.rt:167:51
-sub-answered : tie.Need-sub-answered
-sub-answered c = search needs
-
--- src/main.rt:167:51
-part-answered-start : tie.Need-part-answered-start
-part-answered-start c = search needs
-
--- src/main.rt:167:51
 part-answered-end : tie.Need-part-answered-end
-part-answered-end c = ?
+part-answered-end c = omega (arith, room (c .before .before .before .before .before .before .before .before .before .before .before .before .before), c .before .before .before .before .before .before .text .given)
 
--- src/main.rt:167:9
-answered-requires : tie.Need-answered-requires
-answered-requires c κs = search needs
-
--- src/main.rt:169:28
-sub-write-all : tie.Need-sub-write-all
-sub-write-all c = search needs
-
--- src/main.rt:169:28
-part-write-all-start : tie.Need-part-write-all-start
-part-write-all-start c = search needs
-
--- src/main.rt:169:28
 part-write-all-end : tie.Need-part-write-all-end
-part-write-all-end c = ?
+part-write-all-end c = omega (arith, gone-within (c .before .before .before .before .before .before .before .before .before .before .before .before .before .before .before .before .before .before .before .before .before .args .came .over) _ _ (c .before .before .before .before .before .answered .result) _ _ _ (c .before .before .before .before .before .answered .ensures) .1)
 
--- src/main.rt:169:9
-write-all-requires : tie.Need-write-all-requires
-write-all-requires c κs = search needs
-
--- src/main.rt:170:9
 no-room-requires : tie.Need-no-room-requires
-no-room-requires c κs = ?
+no-room-requires c κs = gone-within (c .before .before .before .before .before .before .before .before .before .before .before .before .before .before .before .before .before .before .before .before .before .before .before .args .came .over) _ _ (c .before .before .before .before .before .before .before .answered .result) _ _ _ (c .before .before .before .before .before .before .before .answered .ensures) .1
 
--- src/main.rt:174:13
 keep-requires : tie.Need-keep-requires
-keep-requires c κs = ?
+keep-requires c κs = let g = simp (sub-zero, length-take) at (gone-within (c .before .before .before .before .before .before .before .before .before .before .before .before .before .before .before .before .before .before .before .before .before .before .before .before .before .before .args .came .over) _ _ (c .before .before .before .before .before .before .before .before .before .before .answered .result) _ _ _ (c .before .before .before .before .before .before .before .before .before .before .answered .ensures) .0) in (omega arith, omega (arith, room (c .before .before .before .before .before .before .before .before .before .before .before .before .before .before .before .before .before .before .before .before .before .before .before .before .before .before), c .before .before .before .before .before .before .before .before .before .before .before .before .before .before .before .before .before .before .before .text .given))
 
--- src/main.rt:153:1
-same-length : tie.Need-same-length
-same-length c = search needs
-
--- src/main.rt:153:1
-same-length-2 : tie.Need-same-length-2
-same-length-2 c = search needs
-
--- src/main.rt:153:1
-same-length-3 : tie.Need-same-length-3
-same-length-3 c = search needs
-
--- src/main.rt:153:1
 returns : tie.Need-returns
-returns c = ?
+returns c =
+    let a = c .before .before .before .before .before .before .before .before .before .before .before .before .before .before .before .before .before .before .before .before .before .before .before .before .before .before .before .before .before .args in let p = c .before .before .before .before .before .before .before .before .before .before .before .before .before .before .before .before .before .before .before .before .before .before .before .before .before .before .before .before .before .pre in let w = c .before .before .before .before .before .before .before .before .before .before .before .before .before .answered in let k = c .before .before .keep in
+    let m = room (c .before .before .before .before .before .before .before .before .before .before .before .before .before .before .before .before .before .before .before .before .before .before .before .before .before .before .before .before .before) in (
+      refl,
+      turns-on (sessionOf (a .before .standing) (now (a .q))) (a .before) (a .came) (c .before .before .before .before .before .before .write-all .result) (w .result) (now (a .text)) (now (a .chunk)) _ _ _ (now (a .out)) _ (p .0) (p .1) (m .1) (m .0)
+          (c .before .before .before .before .before .before .before .before .before .before .before .before .before .before .before .before .before .before .before .before .before .before .before .put .ensures) (simp sub-zero at (c .before .before .before .before .before .before .write-all .ensures)) (p .3) (a .came .over) (c .before .before .before .before .before .no-room .result) (k .result) refl (simp sub-zero at (w .ensures))
+          (rw (c .before .before .before .before .before .before .before .before .before .before .out .given) at (c .before .before .before .before .before .no-room .ensures)) (k .ensures .0) (k .ensures .2) (omega (arith, k .ensures .1, c .before .text3 .given, c .before .before .before .before .before .before .before .before .before .before .before .before .before .before .before .before .before .before .before .before .before .before .text .given, m .0)),
+    )
 
 pub turn-spec : {M : Type 1} → statement M
 turn-spec =
@@ -79,17 +47,17 @@ turn-spec =
     (tie.spec
     put-requires
     add-to
-    sub-answered
-    part-answered-start
+    (λ c. search needs)
+    (λ c. search needs)
     part-answered-end
-    answered-requires
-    sub-write-all
-    part-write-all-start
+    (λ c κs. search needs)
+    (λ c. search needs)
+    (λ c. search needs)
     part-write-all-end
-    write-all-requires
+    (λ c κs. search needs)
     no-room-requires
     keep-requires
-    same-length
-    same-length-2
-    same-length-3
+    (λ c. search needs)
+    (λ c. search needs)
+    (λ c. search needs)
     returns)
