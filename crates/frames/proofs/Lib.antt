@@ -5,3 +5,4 @@ pub mod Plain
 pub mod Walking
 pub mod Replies
 pub mod Variants
+pub mod OneWalk
