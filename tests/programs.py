@@ -1,4 +1,4 @@
-"""Finds, builds and runs the two programs; nothing else in tests/ or bench/ knows where they are.
+"""Finds, builds and runs the programs; nothing else in tests/ or bench/ knows how.
 
 The recorder and the probe are built by `rt check`, for x86-64, and stand under target/bin. They run as the kit
 itself runs a program: under the kit's loader and C library, and on another processor under the kit's emulator.
@@ -105,20 +105,23 @@ def mistakes():
     return range(1, int(told[1]) + 1)
 
 
-def second_under_kit():
-    """The words that run the second program as the recorder is run: built by the kit's compiler, with its C library.
+# ---- C programs for the kit's loader and C library
+
+@lru_cache(maxsize=None)
+def c_under_kit(name, sources, flags=()):
+    """The words that run build/kit-NAME as the recorder is run: built by the kit's compiler, for x86-64, with its C library.
 
     The kit has no headers, so they are those of this machine's compiler; what they declare is the same.
     """
-    sources = sorted((SECOND_ROOT / 'second').glob('*.c'))
-    if not sources:
-        raise Missing('second/ has no program')
-    objects = [BUILD / f'kit-{source.stem}.o' for source in sources]
-    path = BUILD / 'second-kit'
+    absent = [str(source) for source in sources if not source.is_file()]
+    if absent or not sources:
+        raise Missing(f'{name} cannot be built: {", ".join(absent) or "its source"} is not there')
+    path = BUILD / f'kit-{name}'
     BUILD.mkdir(exist_ok=True)
     target = 'x86_64-unknown-linux-gnu'
     headers = [word for folder in header_folders() for word in ('-isystem', folder)]
-    clang = [toolchain() / 'bin' / 'clang', f'--target={target}', '-std=c11', '-O2', '-nostdinc', *headers]
+    clang = [toolchain() / 'bin' / 'clang', f'--target={target}', '-std=c11', '-nostdinc', *headers, *flags]
+    objects = [path.with_name(f'{path.name}-{source.stem}.o') for source in sources]
     for source, made in zip(sources, objects):
         build_step([*clang, '-c', source, '-o', made])
     build_step([kit_here() / 'bin' / 'rattle-link', '--target', target, '--toolchain', toolchain(), '-o', path, *objects])
