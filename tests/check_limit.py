@@ -16,6 +16,11 @@ LOWER, EQUAL, OTHER_TYPE = (1, 3, 2, 2, 0, 0), (1, 2, 1, 1, 0, 0), (2, 2, 1, 1, 
 
 
 def check(report, pair, options):
+    return hold(report, {program: programs.recorder_job(program) for program in pair})
+
+
+def hold(report, jobs):
+    """Holds programs to the documents' answers at the end of the numbers."""
     ends = {'no event number left': none_left(), 'two event numbers left': two_left()}
     with tempfile.TemporaryFile() as frames:
         frames.write(OPEN + b'\n' + (words(6) + b'\n') * TICKS)
@@ -24,9 +29,9 @@ def check(report, pair, options):
             frames.truncate(begun)
             frames.seek(begun)
             frames.write(b''.join(frame + b'\n' for frame, _ in turns))
-            for program in pair:
+            for program, job in jobs.items():
                 frames.seek(0)
-                said = compare(programs.recorder_job(program), frames, TICKS + 1, [answer for _, answer in turns])
+                said = compare(job, frames, TICKS + 1, [answer for _, answer in turns])
                 report.check(not said, f'{end}, {program}: {said}')
     ended = ' and '.join(f'{len(turns)} to {end}' for end, turns in ends.items())
     return f'{TICKS + 1:,} frames that leave four of {EVENT_LIMIT:,} event numbers, then {ended}'
