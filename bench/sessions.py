@@ -25,11 +25,6 @@ def turns(first, turn, frames):
 
 # ---- Lines of work
 
-def nothing(frames):
-    """No frames: what it costs to start."""
-    return b''
-
-
 def work(frames, *plan, **numbers):
     """A line of work: a defect in fifty, a jump or an interrupt now and then, ticks and takes."""
     chosen, script = random.Random(1), Script()
@@ -155,21 +150,27 @@ def ill_formed(frames):
 
 
 WRITERS = (
-    nothing, mixed, mixed_1, mixed_F, mixed_T, mixed_V, screening, sampling, changes, tick_storm, takes, before_open, refused, ill_formed,
+    mixed, mixed_1, mixed_F, mixed_T, mixed_V, screening, sampling, changes, tick_storm, takes, before_open, refused, ill_formed,
 )
-SESSIONS = {'no-frames' if write is nothing else write.__name__.replace('_', '-'): write for write in WRITERS}
+SESSIONS = {write.__name__.replace('_', '-'): write for write in WRITERS}
 
 
 # ---- Their files
 
 def written(name, frames):
     """The file of a session, written unless it is there and newer than this page; a broken-off writing leaves none."""
-    FOLDER.mkdir(parents=True, exist_ok=True)
     path = FOLDER / f'{name}-{frames}.in'
     if not path.exists() or path.stat().st_mtime < Path(__file__).stat().st_mtime:
         unfinished = path.with_suffix('.unfinished')
         unfinished.write_bytes(SESSIONS[name](frames))
         os.replace(unfinished, path)
+    return path
+
+
+def no_frames():
+    """A file without frames: what it costs to start."""
+    path = FOLDER / 'no-frames.in'
+    path.write_bytes(b'')
     return path
 
 
