@@ -9,7 +9,6 @@ import re
 import shutil
 import subprocess
 import tempfile
-from pathlib import Path
 
 import programs
 from timing import Failed
@@ -48,25 +47,26 @@ def by_callgrind(words, text):
 def by_emulator(words, text):
     """All instructions of one run: the emulator writes a line for each into a pipe, since a file would be large."""
     emulator, *rest = words
-    with tempfile.TemporaryDirectory() as folder:
-        log, frames = Path(folder) / 'log', Path(folder) / 'frames'
-        frames.write_bytes(text)
-        os.mkfifo(log)
-        with open(frames, 'rb') as source:
-            asked = [emulator, *ONE_BY_ONE, str(log), *rest]
-            process = subprocess.Popen(asked, stdin=source, stdout=subprocess.DEVNULL, env=programs.environment())
+    reading, writing = os.pipe()
+    with tempfile.TemporaryFile() as frames, os.fdopen(reading, 'rb', buffering=0) as log:
+        frames.write(text)
+        frames.seek(0)
+        asked = [emulator, *ONE_BY_ONE, f'/dev/fd/{writing}', *rest]
+        quiet = dict(stdout=subprocess.DEVNULL, stderr=subprocess.PIPE, env=programs.environment())
+        process = subprocess.Popen(asked, stdin=frames, pass_fds=[writing], **quiet)
+        os.close(writing)
         counted = marks(log)
-    if process.wait() != 0 or counted == 0:
-        raise Failed(f'the emulator did not count {words[-1]}: it ended with {process.returncode}')
+        said = process.communicate()[1].decode(errors='replace').strip()
+    if process.returncode != 0 or counted == 0:
+        raise Failed(f'the emulator did not count {words[-1]}: it ended with {process.returncode}, {said[:500]}')
     return counted
 
 
 def marks(log):
     """How many lines of a log begin with the mark; the end of a part is looked at again with the next."""
     counted, rest = 0, b'\n'
-    with open(log, 'rb', buffering=0) as source:
-        while part := source.read(1 << 20):
-            part = rest + part
-            counted += part.count(MARK)
-            rest = part[1 - len(MARK):]
+    while part := log.read(1 << 20):
+        part = rest + part
+        counted += part.count(MARK)
+        rest = part[1 - len(MARK):]
     return counted

@@ -9,7 +9,6 @@ import programs
 from timing import Failed
 
 SOURCE = Path(__file__).resolve().parent / 'peers' / 'trips.c'
-PATIENCE = 600
 
 
 def driver():
@@ -25,7 +24,7 @@ def driver():
 def a_second(drive, frames, answers, words):
     """Round trips a second; the driver holds each answer to the one that is due."""
     words = [drive, str(frames), str(answers), *words]
-    done = subprocess.run(words, capture_output=True, text=True, timeout=PATIENCE, env=programs.environment())
+    done = subprocess.run(words, capture_output=True, text=True, env=programs.environment())
     told = re.fullmatch(r'(\d+) trips, (\d+) ns\n', done.stdout)
     if done.returncode != 0 or told is None:
         raise Failed(f'round trips with {words[-1]}: {done.stderr.strip() or "the driver said nothing"}')

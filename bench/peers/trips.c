@@ -4,7 +4,8 @@
    the next goes out when the answer has come, which must be the next 33 bytes
    of the file of answers, and no more. Prints how many round trips were made
    and in how many nanoseconds; the first, in which the program starts, is not
-   among them. The exit status is 1 where anything is not as it should be. */
+   among them. The exit status is 1 where anything is not as it should be, or
+   all is not done in two minutes. */
 #define _POSIX_C_SOURCE 200809L
 #include <errno.h>
 #include <signal.h>
@@ -15,7 +16,7 @@
 #include <time.h>
 #include <unistd.h>
 
-enum { ANSWER_CHARS = 33 };
+enum { ANSWER_CHARS = 33, PATIENCE = 120 };
 
 struct text {
     char *bytes;
@@ -26,6 +27,17 @@ static _Noreturn void fail(const char *what, long at)
 {
     fprintf(stderr, "trips: frame %ld: %s\n", at, what);
     exit(1);
+}
+
+/* An answer that does not come would be waited for without end. */
+static void late(int signal)
+{
+    static const char said[] = "trips: the program does not answer\n";
+
+    (void)signal;
+    if (write(STDERR_FILENO, said, sizeof said - 1) < 0)
+        _exit(2);
+    _exit(1);
 }
 
 static struct text read_file(const char *path)
@@ -162,6 +174,8 @@ int main(int argc, char **argv)
         return 2;
     }
     signal(SIGPIPE, SIG_IGN);
+    signal(SIGALRM, late);
+    alarm(PATIENCE);
     frames = read_file(argv[1]);
     answers = read_file(argv[2]);
     child = start(argv + 3, &to, &from);
