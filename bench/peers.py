@@ -18,7 +18,6 @@ WHAT = {
     'tuned': 'bench/peers/tuned.c, as a C programmer would tune it; it trusts its record',
     FLOOR: 'bench/peers/floor.c: it reads, puts 33 bytes for each line, and writes',
 }
-NAMES = (RECORDER, *WHAT)
 
 
 def sources(name):

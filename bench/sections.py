@@ -100,6 +100,9 @@ def instructions(bench):
     if count is None:
         print(f'\n{title}: {how}', flush=True)
         return
+    loader = 'the loader\'s among them; an instruction that repeats itself, as to clear memory, counts each time'
+    tables.head(f'Instructions of a run without frames, {loader}', bench.jobs, tables.NARROW, counts=False)
+    tables.row('no frames', None, [f'{count(words, b""):,}' for words in bench.jobs.values()], tables.NARROW)
     names = [name for name in bench.frames if name in QUICKLY or name in given.only or not given.quick]
     span = f'frames {given.begin + 1:,} to {given.whole:,}'
     if names:
