@@ -47,6 +47,14 @@ module _ (s : List ℕ) (i : ℕ) where
       (eqb-false _ _ (p2 .1))) (eqb-false _ _ (p3 .1))) (eqb-false _ _ (p4 .1)))
       (eqb-false _ _ (p5 .1))) (eqb-false _ _ (p6 .1))) (eqb-false _ _ (p7 .1))
 
+  -- and those before them
+  pub eight-more : (from : ℕ) → ((k : ℕ) → k < i → from ≤ k → getD s k 0 ≡ 10 → ⊥) → Plain s i 8 → (k : ℕ) → k < i + 8 → from ≤ k → getD s k 0 ≡ 10 → ⊥
+  eight-more from f g k h l e = go (decLt k i)
+    where
+      go : Dec (k < i) → ⊥
+      go (yes p) = f k p l e
+      go (no p) = g k h (omega arith) e
+
   -- a line ends at the line feed behind them
   plain-end : (n : ℕ) → Plain s i n → i + n < length s → getD s (i + n) 0 ≡ 10 → LineEnd s i (i + n)
   plain-end n p h e = record { low = omega arith; high = omega arith; plain = p; feed = λ l. e }

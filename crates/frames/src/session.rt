@@ -148,13 +148,15 @@ pub fn step(
 {
     let read = read_line(weights, line);
     let Reading::Read(frame) = read else {
-        return refused_reply(s, Refusal::IllFormed, out, at);
+        put_refusal(out, at, Refusal::IllFormed);
+        return s;
     };
     if !s.opened {
         return first_reply(s, q, frame, out, at);
     }
     let Frame::Call(call) = frame else {
-        return refused_reply(s, Refusal::IllFormed, out, at);
+        put_refusal(out, at, Refusal::IllFormed);
+        return s;
     };
     call_reply(s, q, call, out, at)
 }

@@ -14,7 +14,7 @@ abbrev μ-loop : tie.MeasureT-loop
 μ-loop s from i₀ i = length s - i
 
 loop-holds : tie.Need-loop-holds Inv-loop μ-loop
-loop-holds c = (search needs, search needs, λ k h l e. omega arith)
+loop-holds c = c .skipped .ensures
 
 returns : tie.Need-returns Inv-loop μ-loop
 returns c = let l = c .before .before .before .loop in record { low = l .inv .0; high = l .inv .1; plain = l .inv .2; feed = λ h. c .if1 .taken }
@@ -31,6 +31,7 @@ scanned-end-spec =
     (tie.spec
     Inv-loop
     μ-loop
+    (λ c κs. search needs)
     loop-holds
     (λ c. search needs)
     returns
