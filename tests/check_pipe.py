@@ -1,6 +1,7 @@
 """A peer on a pipe that waits for each answer: it must come as soon as its frame has ended, however the bytes arrive."""
 
 import fcntl
+import itertools
 import os
 import random
 import select
@@ -87,7 +88,10 @@ def check(report, pair, options):
                 if (name, way) != ('long', 'byte by byte'):
                     said = talk(programs.recorder_job(program), text, parts(text))
                     report.check(not said, f'pipe, {program}, {name}, {way}: {said}')
-    return f'{len(texts)} sessions with each program: {", ".join(ways)}'
+        storm = storm_session()
+        said = talk(programs.recorder_job(program), storm, in_large_parts(storm))
+        report.check(not said, f'pipe, {program}, a storm, in large parts: {said}')
+    return f'{len(texts)} sessions with each program: {", ".join(ways)}; a storm of short lines in large parts'
 
 
 def long_session():
@@ -98,6 +102,13 @@ def long_session():
         script.tick()
         script.take(2)
     return script.text()
+
+
+def storm_session():
+    """Ticks and empty lines: the answers to a part of them have no room in one write, and the peer waits for all of them."""
+    script = Script()
+    script.open(CSP_1, 3, 4)
+    return script.text() + b'06\n' * 6_000 + b'\n' * 20_000 + b'06\n07\n' * 2_000
 
 
 # ---- How a session is cut into parts
@@ -114,6 +125,16 @@ def in_odd_parts(text):
     chosen, parts = random.Random(len(text)), []
     while text:
         size = chosen.choice((1, 2, 3, 5, 11, 12, 13, 31, 64, 79, 80, 81, 82, 127, 500, 1000))
+        parts.append(text[:size])
+        text = text[size:]
+    return parts
+
+
+def in_large_parts(text):
+    """No part is larger than one read: a program that waits for its answers to be heard would not read the rest of it."""
+    sizes, parts = itertools.cycle((8192, 993, 994, 5000, 1986, 8191)), []
+    while text:
+        size = next(sizes)
         parts.append(text[:size])
         text = text[size:]
     return parts
