@@ -1,7 +1,7 @@
 // The blocks of sampling, the generator, and the place that it chooses in a block (document 01, "Sampling").
 use rules::Plan;
 ghost use mathlib.Core.Path.{_≡_};
-ghost use Prim.Native.Nat.{_+_, _*_, _%_, _^_, _≤_};
+ghost use Prim.Native.Nat.{_+_, _*_, _/_, _%_, _^_, _≤_};
 ghost use Rattle.rules.specs.Draw.{step, place};
 ghost use Rattle.rules.specs.Sampling.{blockLength, nextPlace};
 
@@ -10,13 +10,14 @@ pub fn block_length(p: Plan, level: u32) -> u64
     ensures { λ r. ⌜ r ≡ blockLength p level ⌝ }
 {
     let n = p.n as u64;
+    let twice = n + n;
     if level == 0 {
         return n;
     }
     if level == 1 {
-        return 2 * n;
+        return twice;
     }
-    4 * n
+    twice + twice
 }
 
 // The place after this one, counted round a block.
@@ -27,18 +28,35 @@ pub fn next_place(len: u64, at: u32) -> u64
     if next == len { 0 } else { next }
 }
 
-// The whole product of two 32-bit numbers.
-fn product(a: u32, b: u32) -> u64
-    ensures { λ r. ⌜ r ≡ a * b ⌝ }
+// The upper and the lower 16 bits of a number.
+fn high_half(x: u32) -> u16
+    ensures { λ r. ⌜ r ≡ x / 65536 ⌝ }
 {
-    (a as u64) * (b as u64)
+    (x / 65536) as u16
 }
 
-// a * b, wrapping at 2^32.
+fn low_half(x: u32) -> u16
+    ensures { λ r. ⌜ r ≡ x % 65536 ⌝ }
+{
+    (x % 65536) as u16
+}
+
+// The whole product of two halves.
+fn half_product(a: u16, b: u16) -> u32
+    ensures { λ r. ⌜ (r ≡ a * b) × (r ≤ 65535 * 65535) ⌝ }
+{
+    (a as u32) * (b as u32)
+}
+
+// a * b, wrapping at 2^32: the product of the high halves lies above it, and of the two mixed products only the low halves
+// lie below.
 fn wrapping_mul(a: u32, b: u32) -> u32
     ensures { λ r. ⌜ r ≡ a * b % 2 ^ 32 ⌝ }
 {
-    (product(a, b) % 4294967296) as u32
+    let down = half_product(high_half(a), low_half(b)) % 65536;
+    let up = half_product(low_half(a), high_half(b)) % 65536;
+    let lowest = half_product(low_half(a), low_half(b));
+    std::num::wrapping_add_u32(lowest, (down + up) % 65536 * 65536)
 }
 
 // The state of the generator after s.
@@ -48,9 +66,11 @@ pub fn step(s: u32) -> u32
     std::num::wrapping_add_u32(wrapping_mul(1664525, s), 1013904223)
 }
 
-// The place that the state s chooses in a block of len, counted from 0.
-pub fn place(s: u32, len: u32) -> u32
+// The place that the state s chooses in a block of len, counted from 0: of the product of the low half only what it carries
+// counts.
+pub fn place(s: u32, len: u16) -> u32
     ensures { λ r. ⌜ r ≡ place s len ⌝ }
 {
-    (product(s, len) / 4294967296) as u32
+    let carry = half_product(low_half(s), len) / 65536;
+    (half_product(high_half(s), len) + carry) / 65536
 }
