@@ -21,13 +21,20 @@ fn refuse_if(fault: bool, r: Refusal, otherwise: Verdict) -> Verdict
 fn no_queue(len: usize) -> bool
     ensures { λ r. ⌜ r ≡ noQueue len ⌝ }
 {
-    (len % 3 != 0) | !((8 <= len / 3) & (len / 3 <= 4096))
+    if 12288 < len {
+        return true;
+    }
+    let words = len as u32;
+    (words % 3 != 0) | !record::room_in_range(words / 3)
 }
 
 fn wrong_queue(room: u32, len: usize) -> bool
     ensures { λ r. ⌜ r ≡ wrongQueue room len ⌝ }
 {
-    !record::room_in_range(room) | (len != 3 * (room as usize))
+    if !record::room_in_range(room) {
+        return true;
+    }
+    len != ((3 * room) as usize)
 }
 
 fn numbers_spent(next: u32) -> bool

@@ -19,7 +19,7 @@ ghost use Rattle.rules.specs.Plan.{clearanceLimit};
 ghost use Rattle.rules.specs.Sampling.{drawn, placed, counted, quietly, goodT, goodV, good2, sampledGood, reverted, needAfterSampling, sampledBad};
 ghost use Rattle.rules.specs.Stream.{arrivedDrawn, arrivedSampling};
 
-fn draw_place(len: u32, s: u32, m: Sampling) -> Drawn
+fn draw_place(len: u16, s: u32, m: Sampling) -> Drawn
     ensures { λ r. ⌜ r ≡ drawn len s m ⌝ }
 {
     if m.place == 0 {
@@ -36,7 +36,7 @@ fn draw_place(len: u32, s: u32, m: Sampling) -> Drawn
 }
 
 // The unit at the chosen place is inspected, the others pass.
-pub fn arrived_sampling(len: u32, s: u32, m: Sampling) -> Arrived
+pub fn arrived_sampling(len: u16, s: u32, m: Sampling) -> Arrived
     requires { ⌜ m .place < 800 ⌝ }
     ensures { λ r. ⌜ r ≡ arrivedSampling len s m ⌝ }
 {

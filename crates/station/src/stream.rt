@@ -154,7 +154,7 @@ fn arrive(p: Plan, s: u32, phase: Phase) -> Arrived
             generator: s,
             inspect: true,
         },
-        Phase::Sample(m) => arrived_sampling(draw::block_length(p, m.level) as u32, s, m),
+        Phase::Sample(m) => arrived_sampling(draw::block_length(p, m.level) as u16, s, m),
     }
 }
 

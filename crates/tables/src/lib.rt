@@ -13,7 +13,7 @@ use rules::Found;
 use rules::HIGHEST_UNIT;
 use rules::Plan;
 ghost use mathlib.Core.Path.{_≡_};
-ghost use Prim.Native.Nat.{_≤_, _<_};
+ghost use Prim.Native.Nat.{_+_, _*_, _≤_, _<_};
 ghost use Rattle.rules.specs.Tables.{column, row, letterRow, inV, inIIIA4, planV, planIIIA4, lookUp};
 
 // The column of an AQL in Table V: 8 where it is none of the eight.
@@ -72,19 +72,25 @@ fn in_iii_a_4(kind: u32, letter: u32, aql: u32, period: u32) -> bool
         & ((1 <= period) & (period <= HIGHEST_UNIT))
 }
 
+// The cell of a row and a column in a list of rows of eight, multiplied in 32 bits (document 02, W3).
+fn cell(row: usize, column: usize) -> usize
+    requires { ⌜ (row ≤ 20) × (column ≤ 20) ⌝ }
+    ensures { λ r. ⌜ r ≡ row * 8 + column ⌝ }
+{
+    (((row as u32) * 8) as usize) + column
+}
+
 // The entry of Table V.
 fn plan_v(letter: u32, aql: u32) -> Plan
     requires { ⌜ (1 ≤ letter) × (letter ≤ 11) × (column aql < 8) ⌝ }
     ensures { λ r. ⌜ r ≡ planV letter aql ⌝ }
 {
-    let by_letter = letter_row(letter);
-    let by_aql = column(aql);
-    let cell = by_letter * 8 + by_aql;
+    let at = cell(letter_row(letter), column(aql));
     Plan {
         kind: CSP_T,
         n: FREQUENCIES[(letter - 1) as usize],
-        i: TABLE_V_I[cell],
-        s: TABLE_V_S[cell],
+        i: TABLE_V_I[at],
+        s: TABLE_V_S[at],
         x: 0,
         period: 0,
     }
@@ -96,12 +102,11 @@ fn plan_iii_a_4(letter: u32, period: u32) -> Plan
     ensures { λ r. ⌜ r ≡ planIIIA4 letter period ⌝ }
 {
     let by_letter = (letter - 1) as usize;
-    let by_period = row(period);
-    let cell = by_period * 8 + by_letter;
+    let at = cell(row(period), by_letter);
     Plan {
         kind: CSP_F,
         n: FREQUENCIES[by_letter],
-        i: TABLE_III_A_4[cell],
+        i: TABLE_III_A_4[at],
         s: 0,
         x: 0,
         period: period,
