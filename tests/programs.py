@@ -72,6 +72,16 @@ def kit_program(name):
     return under_kit(path)
 
 
+@lru_cache(maxsize=None)
+def static_library(name):
+    """target/staticlib/libNAME.a, proved and built anew once for each run."""
+    built = subprocess.run(['rt', 'staticlib', name], cwd=RECORDER_ROOT, capture_output=True, text=True)
+    path = RECORDER_ROOT / 'target' / 'staticlib' / f'lib{name}.a'
+    if built.returncode != 0 or not path.is_file():
+        raise Missing(f'rt staticlib {name} ended with {built.returncode}: {(built.stdout + built.stderr).strip()[-1000:]}')
+    return path
+
+
 def environment():
     """The emulator takes orders from QEMU_ variables; a run must not hang on them."""
     return {name: value for name, value in os.environ.items() if not name.startswith('QEMU_')}
@@ -108,7 +118,7 @@ def mistakes():
 # ---- C programs for the kit's loader and C library
 
 @lru_cache(maxsize=None)
-def c_under_kit(name, sources, flags=()):
+def c_under_kit(name, sources, flags=(), libraries=()):
     """The words that run build/kit-NAME as the recorder is run: built by the kit's compiler, for x86-64, with its C library.
 
     The kit has no headers, so they are those of this machine's compiler; what they declare is the same.
@@ -124,7 +134,7 @@ def c_under_kit(name, sources, flags=()):
     objects = [path.with_name(f'{path.name}-{source.stem}.o') for source in sources]
     for source, made in zip(sources, objects):
         build_step([*clang, '-c', source, '-o', made])
-    build_step([kit_here() / 'bin' / 'rattle-link', '--target', target, '--toolchain', toolchain(), '-o', path, *objects])
+    build_step([kit_here() / 'bin' / 'rattle-link', '--target', target, '--toolchain', toolchain(), '-o', path, *objects, *libraries])
     return under_kit(path)
 
 

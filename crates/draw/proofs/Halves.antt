@@ -15,11 +15,11 @@ by-halves s t =
 pub above : (s t : ℕ) → (s / 65536 * t + s % 65536 * t / 65536) / 65536 ≡ s * t / 4294967296
 above s t = omega (arith, by-halves s t)
 
--- what lies below 2^32: of the four products of halves the highest does not count, and of the two mixed ones their low halves do
-below : (x highest down up lowest : ℕ) → x ≡ (highest * 65536 + down) * 65536 + (up * 65536 + lowest)
-    → (lowest + (down % 65536 + up % 65536) % 65536 * 65536) % 4294967296 ≡ x % 4294967296
-below x highest down up lowest e =
-    let mixed : (down % 65536 + up % 65536) % 65536 ≡ (down + up) % 65536 = omega arith in
+-- what lies below 2^32: of the four products of halves that of the high ones does not count, and of the mixed ones their low halves do
+below : (x high-high high-low low-high low-low : ℕ) → x ≡ (high-high * 65536 + high-low) * 65536 + (low-high * 65536 + low-low)
+    → (low-low + (high-low % 65536 + low-high % 65536) % 65536 * 65536) % 4294967296 ≡ x % 4294967296
+below x high-high high-low low-high low-low e =
+    let mixed : (high-low % 65536 + low-high % 65536) % 65536 ≡ (high-low + low-high) % 65536 = omega arith in
     rw mixed (omega arith)
 
 pub wrapped : (s t : ℕ)

@@ -1,4 +1,5 @@
-// The blocks of sampling, the generator, and the place that it chooses in a block (document 01, "Sampling").
+// The blocks of sampling, the generator, and the place that it chooses in a block (document 01, "Sampling"). Nothing is multiplied to
+// more than 32 bits: on a controller that would be a routine of its own (document 02, W3).
 use rules::Plan;
 ghost use mathlib.Core.Path.{_≡_};
 ghost use Prim.Native.Nat.{_+_, _*_, _/_, _%_, _^_, _≤_};
@@ -48,15 +49,14 @@ fn half_product(a: u16, b: u16) -> u32
     (a as u32) * (b as u32)
 }
 
-// a * b, wrapping at 2^32: the product of the high halves lies above it, and of the two mixed products only the low halves
-// lie below.
+// a * b, wrapping at 2^32: the product of the high halves lies above that, and of the two mixed ones only the low halves lie below.
 fn wrapping_mul(a: u32, b: u32) -> u32
     ensures { λ r. ⌜ r ≡ a * b % 2 ^ 32 ⌝ }
 {
-    let down = half_product(high_half(a), low_half(b)) % 65536;
-    let up = half_product(low_half(a), high_half(b)) % 65536;
-    let lowest = half_product(low_half(a), low_half(b));
-    std::num::wrapping_add_u32(lowest, (down + up) % 65536 * 65536)
+    let high_low = half_product(high_half(a), low_half(b)) % 65536;
+    let low_high = half_product(low_half(a), high_half(b)) % 65536;
+    let low_low = half_product(low_half(a), low_half(b));
+    std::num::wrapping_add_u32(low_low, (high_low + low_high) % 65536 * 65536)
 }
 
 // The state of the generator after s.
@@ -66,8 +66,8 @@ pub fn step(s: u32) -> u32
     std::num::wrapping_add_u32(wrapping_mul(1664525, s), 1013904223)
 }
 
-// The place that the state s chooses in a block of len, counted from 0: of the product of the low half only what it carries
-// counts.
+// The place that the state s chooses in a block of len, counted from 0: of the low half's product only the carry counts. The length is
+// of 16 bits, so that two products do: of the four for any length a compiler makes a wide one again.
 pub fn place(s: u32, len: u16) -> u32
     ensures { λ r. ⌜ r ≡ place s len ⌝ }
 {

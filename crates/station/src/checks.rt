@@ -18,6 +18,7 @@ fn refuse_if(fault: bool, r: Refusal, otherwise: Verdict) -> Verdict
     otherwise
 }
 
+// No queue has more words than 4,096 entries; up to there they are counted in 32 bits (document 02, W3).
 fn no_queue(len: usize) -> bool
     ensures { λ r. ⌜ r ≡ noQueue len ⌝ }
 {
@@ -28,6 +29,7 @@ fn no_queue(len: usize) -> bool
     (words % 3 != 0) | !record::room_in_range(words / 3)
 }
 
+// A room in its range is multiplied in 32 bits.
 fn wrong_queue(room: u32, len: usize) -> bool
     ensures { λ r. ⌜ r ≡ wrongQueue room len ⌝ }
 {
