@@ -53,7 +53,7 @@ unsigned place(unsigned s, unsigned len)
 
 
 def check(report, pair, options):
-    told = [check_sources(report), check_pairs(report, options.seed), check_code(report), check_recorder(report), check_command(report)]
+    told = [check_sources(report), check_pairs(report, options.seed), check_code(report), check_command(report), check_recorder(report)]
     return ''.join(f'\n    {line}' for line in told)
 
 
@@ -123,7 +123,8 @@ def check_pairs(report, seed):
     for number, (what, shows_in) in enumerate(BENDS.items()):
         bent = compared(programs.c_under_kit(f'places-{number}', (SOURCE,), ('-O2', f'-DBENT={number}')), seed, FEW)
         differing = {name for name, (_, differ, _) in bent.items() if differ}
-        report.check(differing <= set(shows_in) and bool(differing) == bool(shows_in), f'{what}: it differs in {sorted(differing)}')
+        as_due = bent.keys() == {*OF_PLACES, *OF_STEPS} and differing <= set(shows_in) and bool(differing) == bool(shows_in)
+        report.check(as_due, f'{what}: of {sorted(bent)} it differs in {sorted(differing)}')
     return f'{sum(OF_PLACES.values()):,} places and {sum(OF_STEPS.values()):,} steps as the 64-bit product has them; {len(BENDS) - 1} wrong versions differ'
 
 
@@ -154,15 +155,6 @@ def check_code(report):
     return f'products of 32 bits in the code: {", ".join(said)}'
 
 
-def check_recorder(report):
-    """On a controller the whole recorder calls no routine for arithmetic of 64 bits."""
-    called = compiled.routines(compiled.assembly(compiled.module(compiled.RECORDER), 'cortex-m0'))
-    report.check(called, 'no routine was found that the recorder calls on a Cortex-M0, not even one that copies')
-    for name in called:
-        report.check(compiled.is_narrow(name), f'on a Cortex-M0 the recorder calls {name}: {compiled.purpose(name)}')
-    return f'on a Cortex-M0 the recorder calls {", ".join(called)}'
-
-
 # ---- The command
 
 def check_command(report):
@@ -179,6 +171,16 @@ def check_command(report):
         status, said = run_command(RECORDER_ROOT=folder)
         report.check(status == 2 and not said, f'with nothing to compile bin/compiled ends with {status}: {said}')
     return 'bin/compiled shows the same, and where a product is of 64 bits says so'
+
+
+def check_recorder(report):
+    """On a controller the whole recorder calls no routine for arithmetic of 64 bits."""
+    status, said = run_command('--recorder')
+    called = re.findall(r'(?m)^ +\d+  (__\w+)', said)
+    report.check(status == 0 and called, f'bin/compiled --recorder ends with {status}: {said}')
+    for name in called:
+        report.check(compiled.is_narrow(name), f'on a Cortex-M0 the recorder calls {name}: {compiled.purpose(name)}')
+    return f'on a Cortex-M0 the recorder calls {", ".join(called)}'
 
 
 def run_command(*words, **more):
