@@ -18,7 +18,7 @@ fn refuse_if(fault: bool, r: Refusal, otherwise: Verdict) -> Verdict
     otherwise
 }
 
-// No queue has more words than 4,096 entries; up to there they are counted in 32 bits (document 02, W3).
+// No queue has more than the 12,288 words of 4,096 entries; up to there they are counted in 32 bits (document 02, W3).
 fn no_queue(len: usize) -> bool
     ensures { λ r. ⌜ r ≡ noQueue len ⌝ }
 {

@@ -72,12 +72,12 @@ fn in_iii_a_4(kind: u32, letter: u32, aql: u32, period: u32) -> bool
         & ((1 <= period) & (period <= HIGHEST_UNIT))
 }
 
-// The cell of a row and a column in a list of rows of eight, multiplied in 32 bits (document 02, W3).
-fn cell(row: usize, column: usize) -> usize
-    requires { ⌜ (row ≤ 20) × (column ≤ 20) ⌝ }
-    ensures { λ r. ⌜ r ≡ row * 8 + column ⌝ }
+// The cell so many rows down and so many columns across, in a list of at most 21 rows of eight; multiplied in 32 bits (document 02, W3).
+fn cell(down: usize, across: usize) -> usize
+    requires { ⌜ (down ≤ 20) × (across ≤ 7) ⌝ }
+    ensures { λ r. ⌜ r ≡ down * 8 + across ⌝ }
 {
-    (((row as u32) * 8) as usize) + column
+    (((down as u32) * 8) as usize) + across
 }
 
 // The entry of Table V.
