@@ -1,47 +1,51 @@
-"""No product of 64 bits (document 02, W3): none in the sources of four crates, none in the code that is made of the place and
-the step, and every place and every step as the 64-bit product has it.
+"""No product of 64 bits (document 02, W3): none in the sources of four crates, none in the code that is made of the place and of
+the step, no routine for one that the recorder calls on a controller; and places and steps beside the 64-bit product.
 
-Each look is tried on something that it must find: sources and C that have such a product, and wrong versions of the two functions.
+Each look is tried on something that it must find: sources, C and programs that have such a product, and wrong versions of the
+two functions.
 """
 
 import os
 import re
 import subprocess
 import tempfile
+from collections import Counter
 from pathlib import Path
 
 import compiled
 import mir
 import programs
+from compiled import CORTEX_M0, TARGETS, X86_64
 
 CRATES = ('draw', 'record', 'tables', 'station')
-LONGEST = 800
-COUNT = 4_000_000
-OF_PLACES = {'edges': LONGEST * (LONGEST + 1), 'lengths': 8 * 2 ** 16, 'random-pairs': COUNT, 'random-blocks': COUNT}
-OF_STEPS = {'halves': 4 * 2 ** 16, 'random-states': COUNT, 'walk': COUNT}
-SOURCE = programs.ROOT / 'tests' / 'places.c'
-BENDS = {'a right version in C': (), **{f'place bent, {number}': OF_PLACES for number in range(1, 6)},
-         **{f'step bent, {number}': OF_STEPS for number in range(6, 10)}}
-FEW = 20_000
-EXPORTED = ('draw_place', 'draw_step')
 COMMAND = programs.ROOT / 'bin' / 'compiled'
-# A library that exports the two names, with a product of 64 bits behind one of them.
-MULTIPLIES = '''#[no_mangle]
-pub extern "C" fn draw_step(s: u32) -> u32 { s }
 
-#[no_mangle]
-pub extern "C" fn draw_place(s: u32, len: u16) -> u32 { ((s as u64) * 1664525 / 4294967296) as u32 }
-'''
-# The functions of a crate that has what must be found, and what of each.
-WIDE = {
+# ---- What must be found
+
+# The functions of a crate, and what of each is of more than 32 bits.
+WIDE_SOURCES = {
     'pub fn product(a: u32, b: u32) -> u64 { (a as u64) * (b as u64) }': 'mul of 64 bits in wide::product',
     'pub fn words(room: u32) -> usize { 3 * (room as usize) }': 'mul of 64 bits in wide::words',
     'pub fn rooms(len: usize) -> usize { len / 3 }': 'div of 64 bits in wide::rooms',
     'pub fn rest(len: usize) -> usize { len % 3 }': 'rem of 64 bits in wide::rest',
     'pub fn narrow(a: u16, b: u16) -> u32 { (a as u32) * (b as u32) }': None,
     'pub fn element(q: &[u32], at: usize) -> u32 { q[at] }': None,
+    'pub fn put(q: &mut [u64], at: usize) { q[at] = 1; }': None,
+    'pub fn eighth(q: &[u8], at: usize) -> u8 { q[at * 8] }': 'mul of 64 bits in wide::eighth',
+    'pub fn same(q: &[u8], at: usize) -> u8 { q[at * 1] }': 'mul of 64 bits in wide::same',
+    'pub fn fourth(q: &[u32], at: usize) -> u32 { q[at * 4] }': 'mul of 64 bits in wide::fourth',
+    'pub fn cell(row: usize, at: usize) -> u32 { let place = row * 4 + at; let table = [7u32, 8, 9]; table[at] + table[place] }':
+        'mul of 64 bits in wide::cell',
 }
-# The product whole, and from four products of halves, for any length of 32 bits: a compiler makes one of the other.
+# Instructions, and whether they multiply to more than 32 bits or call something.
+INSTRUCTIONS = {
+    X86_64: {'imull %eax, %ecx': False, 'imull $25, %eax, %ecx': False, 'leal (%rdi,%rdi,4), %ecx': False, 'jmp .LBB0_1': False,
+             'imull %ecx': True, 'imulq %rcx, %rax': True, 'mull %ecx': True, 'mulq %rdx': True, 'mulxl %eax, %ecx, %edx': True,
+             'pmuludq %xmm1, %xmm0': True, 'mulsd %xmm1, %xmm0': True, 'jmp place': True, 'callq *%rax': True},
+    CORTEX_M0: {'muls r2, r1, r2': False, 'bx lr': False, 'b .LBB0_1': False,
+                'umull r0, r1, r2, r3': True, 'smlal r0, r1, r2, r3': True, 'bl __aeabi_lmul': True, 'b place': True, 'blx r3': True},
+}
+# The product whole; and from four products of halves, for any length of 32 bits, of which a compiler makes it again.
 WHOLE = 'unsigned place(unsigned s, unsigned len) { return (unsigned long long)s * len >> 32; }'
 FOUR = '''
 unsigned place(unsigned s, unsigned len)
@@ -50,6 +54,56 @@ unsigned place(unsigned s, unsigned len)
     return a * c + (t >> 16) + (b * c + (t & 65535) >> 16);
 }
 '''
+# C that calls a routine on a controller, and whether it is let pass.
+ROUTINES = {
+    WHOLE: False,
+    'unsigned long long of(unsigned long long a, unsigned long long b) { return a / b; }': False,
+    'double of(double a, double b) { return a * b; }': False,
+    'unsigned of(unsigned a, unsigned b) { return a / b; }': True,
+}
+# A library that exports the two names, and a recorder, each with a product of 64 bits.
+WIDE_PLACES = '''#[no_mangle]
+pub extern "C" fn draw_step(s: u32) -> u32 { s }
+
+#[no_mangle]
+pub extern "C" fn draw_place(s: u32, len: u16) -> u32 { ((s as u64) * 1664525 / 4294967296) as u32 }
+'''
+WIDE_RECORDER = '''ghost use Prim.Native.Nat.{_≤_};
+
+fn word(b: u8) -> u32 ensures { λ r. ⌜ r ≤ 255 ⌝ } { b as u32 }
+
+fn high(s: u32) -> u32 { ((s as u64) * 1664525 / 4294967296) as u32 }
+
+fn byte(s: u32) -> u8 { (s % 256) as u8 }
+
+fn main() {
+    let mut text = [0u8; 4];
+    let got = libc::read(libc::STDIN_FILENO, &mut text);
+    let s = 16777216 * word(text[0]) + 65536 * word(text[1]) + 256 * word(text[2]) + word(text[3]);
+    text[0] = byte(high(s));
+    let put = libc::write(libc::STDOUT_FILENO, &text);
+}
+'''
+WRITES = bytes(4)
+
+# ---- What is compared
+
+LONGEST = 800
+COUNT, FEW = 4_000_000, 20_000
+OF_PLACES = {'edges': LONGEST * (LONGEST + 1), 'lengths': 11 * 2 ** 16, 'random-pairs': COUNT, 'random-blocks': COUNT}
+OF_STEPS = {'halves': 4 * 2 ** 16, 'random-states': COUNT, 'walk': COUNT}
+SOURCE = programs.ROOT / 'tests' / 'places.c'
+# The versions of tests/places.c by number, and the groups in which each must differ.
+BENDS = (
+    ('a right version', ()),
+    ('place: nothing is carried from the low half', OF_PLACES), ('place: the high half\'s product is cut', OF_PLACES),
+    ('place: the halves in the other order', OF_PLACES), ('place: the low half\'s product is not brought down', OF_PLACES),
+    ('place: rounded to the nearest', OF_PLACES),
+    ('step: one mixed product is left out', OF_STEPS), ('step: the halves in the other order', OF_STEPS),
+    ('step: the mixed products are cut once more', OF_STEPS), ('step: the low halves\' product is cut', OF_STEPS),
+)
+# Products of 32 bits in the code of each function, as docs/DECISIONS.md has them.
+PRODUCTS = {('draw_place', X86_64): 2, ('draw_step', X86_64): 2, ('draw_place', CORTEX_M0): 2, ('draw_step', CORTEX_M0): 3}
 
 
 def check(report, pair, options):
@@ -60,32 +114,29 @@ def check(report, pair, options):
 # ---- The sources, as the compiler has typed them
 
 def check_sources(report):
-    found = []
+    """Of each crate all that its functions reach in the others and in std is looked at too."""
+    products = set()
     for crate in CRATES:
         text = mir_of(programs.RECORDER_ROOT, crate)
-        missing = written(crate) - {name for name, *_ in mir.bodies(text)}
+        missing = written(crate) - Counter(name.split('::')[-1] for name, *_ in mir.bodies(text) if name.startswith(f'{crate}::'))
         report.check(not missing, f'the MIR of {crate} has no {", ".join(sorted(missing))}')
-        own = [made for made in mir.operations(text) if made.function.startswith(f'{crate}::')]
-        for made in own:
-            report.check(narrow(made), f'a {made}')
-        found += [made for made in own if made.what == 'mul' and not made.of_index]
-    report.check(found, 'the four crates multiply nowhere')
-    check_wide(report)
-    return f'{", ".join(CRATES)}: {len(found)} products, none of more than {max(made.bits for made in found)} bits'
+        for made in mir.operations(text):
+            report.check(within_32(made), f'a {made}')
+            products |= {made} if made.what == 'mul' and not made.of_index else set()
+    report.check(products, 'the four crates multiply nowhere')
+    check_wide_sources(report)
+    return f'{", ".join(CRATES)}: products of at most 32 bits in {", ".join(sorted({made.function for made in products}))}'
 
 
-def narrow(made):
+def within_32(made):
     """A product that brings an index to its element is the compiler's own, and a shift."""
-    return made.bits <= 32 or made.what == 'mul' and made.of_index and made.second in (2, 4, 8)
+    return made.bits <= 32 or made.of_index
 
 
 def written(crate):
-    """The functions that a crate's sources have, by the names that they have in the MIR."""
-    names = set()
-    for path in (programs.RECORDER_ROOT / 'crates' / crate / 'src').glob('*.rt'):
-        within = '' if path.stem == 'lib' else f'{path.stem}::'
-        names |= {f'{crate}::{within}{name}' for name in re.findall(r'(?m)^(?:pub )?fn (\w+)', path.read_text())}
-    return names
+    """The functions that a crate's sources have, by the last part of their names."""
+    texts = [path.read_text() for path in (programs.RECORDER_ROOT / 'crates' / crate / 'src').rglob('*.rt')]
+    return Counter(name for text in texts for name in re.findall(r'(?m)^[^/\n]*\bfn (\w+)', text))
 
 
 def mir_of(root, crate):
@@ -95,24 +146,25 @@ def mir_of(root, crate):
     return asked.stdout
 
 
-def check_wide(report):
+def check_wide_sources(report):
     """What must be found is found, and nothing else."""
     with tempfile.TemporaryDirectory() as folder:
-        found = {str(made) for made in mir.operations(mir_of(one_crate(folder, 'wide', '\n'.join(WIDE)), 'wide')) if not narrow(made)}
-    due = {what for what in WIDE.values() if what}
+        text = mir_of(one_crate(folder, 'wide', '\n'.join(WIDE_SOURCES)), 'wide')
+    found = {str(made) for made in mir.operations(text) if not within_32(made)}
+    due = {what for what in WIDE_SOURCES.values() if what}
     report.check(found == due, f'of sources with products of 64 bits {sorted(found)} were found')
 
 
-def one_crate(folder, name, text):
-    """A repository with one library in it."""
-    source = Path(folder) / 'crates' / name / 'src' / 'lib.rt'
+def one_crate(folder, name, text, needs='', root='lib.rt'):
+    """A repository with one crate in it."""
+    source = Path(folder) / 'crates' / name / 'src' / root
     source.parent.mkdir(parents=True)
     source.write_text(text)
-    (Path(folder) / 'crates.txt').write_text(f'{name}:\n')
+    (Path(folder) / 'crates.txt').write_text(f'{name}: {needs}\n')
     return folder
 
 
-# ---- Every place and every step as it was
+# ---- Places and steps beside the 64-bit product
 
 def check_pairs(report, seed):
     job = programs.c_under_kit('places', (SOURCE,), ('-O2',), (programs.static_library('places'),))
@@ -120,12 +172,13 @@ def check_pairs(report, seed):
     for name, due in {**OF_PLACES, **OF_STEPS}.items():
         count, differ, first = given.get(name, (0, 0, 'nothing was compared'))
         report.check(count == due and differ == 0, f'{name}: {count:,} compared of {due:,}, {differ:,} differ: {first}')
-    for number, (what, shows_in) in enumerate(BENDS.items()):
+    for number, (what, shows_in) in enumerate(BENDS):
         bent = compared(programs.c_under_kit(f'places-{number}', (SOURCE,), ('-O2', f'-DBENT={number}')), seed, FEW)
         differing = {name for name, (_, differ, _) in bent.items() if differ}
-        as_due = bent.keys() == {*OF_PLACES, *OF_STEPS} and differing <= set(shows_in) and bool(differing) == bool(shows_in)
+        as_due = bent.keys() == given.keys() and differing == set(shows_in)
         report.check(as_due, f'{what}: of {sorted(bent)} it differs in {sorted(differing)}')
-    return f'{sum(OF_PLACES.values()):,} places and {sum(OF_STEPS.values()):,} steps as the 64-bit product has them; {len(BENDS) - 1} wrong versions differ'
+    places, steps = sum(OF_PLACES.values()), sum(OF_STEPS.values())
+    return f'{places:,} places and {steps:,} steps as the 64-bit product has them; {len(BENDS) - 1} wrong versions differ'
 
 
 def compared(job, seed, count):
@@ -138,49 +191,67 @@ def compared(job, seed, count):
 # ---- The code that is made
 
 def check_code(report):
-    text, said = compiled.module(compiled.PLACES), []
-    for target in compiled.TARGETS:
-        code = compiled.functions(compiled.assembly(text, target), target)
-        for name in EXPORTED:
-            lines = code.get(name, [])
-            wide = [line for line in lines if compiled.wide(line, target)]
-            report.check(not wide, f'{name} for {target} has {wide}')
-            products = sum(compiled.narrow(line, target) for line in lines)
-            report.check(products, f'{name} for {target} multiplies nowhere: {lines}')
-            said.append(f'{name} for {target} {products}')
-        for what, source in {'whole': WHOLE, 'four': FOUR}.items():
-            lines = compiled.functions(compiled.assembly(source, target, 'c'), target).get('place', [])
-            seen = any(compiled.wide(line, target) for line in lines)
-            report.check(seen, f'in C with the product {what} no product of 64 bits is found for {target}: {lines}')
-    return f'products of 32 bits in the code: {", ".join(said)}'
+    for target, instructions in INSTRUCTIONS.items():
+        for line, due in instructions.items():
+            report.check(more_than_32(line, target) == due, f'{line} of {target} is taken for the other kind')
+    made = compiled.module(compiled.PLACES)
+    for (name, target), due in PRODUCTS.items():
+        lines = compiled.code_of(made, target).get(name, [])
+        report.check(not wide(lines, target), f'{name} for {target} has {wide(lines, target)}')
+        products = sum(compiled.narrow_product(line, target) for line in lines)
+        report.check(products == due, f'{name} for {target} has {products} products of 32 bits, and not {due}')
+    for target in TARGETS:
+        for what, source in {'whole': WHOLE, 'of four': FOUR}.items():
+            lines = compiled.code_of_c(source, target).get('place', [])
+            report.check(wide(lines, target), f'in C with the product {what} none of 64 bits is found for {target}: {lines}')
+    return f'products of 32 bits in the code: {", ".join(f"{name} for {target} {due}" for (name, target), due in PRODUCTS.items())}'
 
 
-# ---- The command
+def more_than_32(line, target):
+    return compiled.wide_product(line, target) or compiled.called(line) is not None
+
+
+def wide(lines, target):
+    return [line for line in lines if more_than_32(line, target)]
+
+
+# ---- The command, on the two functions and on the recorder
 
 def check_command(report):
     status, said = run_command()
-    report.check(status == 0 and said.count('none of more') == len(compiled.TARGETS) and '**' not in said, f'bin/compiled ends with {status}: {said}')
-    report.check(all(name in said for name in EXPORTED), f'bin/compiled does not show {" and ".join(EXPORTED)}: {said}')
+    report.check(status == 0 and said.count('wider ones and calls: none') == len(TARGETS) and '**' not in said, f'bin/compiled ends with {status}: {said}')
+    report.check(all(name in said for name, _ in PRODUCTS), f'bin/compiled does not show the two functions: {said}')
     for words, due in {'--help': 0, '--nonsense': 2}.items():
         status, _ = run_command(words)
         report.check(status == due, f'bin/compiled {words} ends with {status}')
     with tempfile.TemporaryDirectory() as folder:
-        status, said = run_command(RECORDER_ROOT=one_crate(folder, 'places', MULTIPLIES))
-        report.check(status == 1 and said.count('**') == len(compiled.TARGETS), f'with a product of 64 bits bin/compiled ends with {status}: {said}')
+        status, said = run_command(RECORDER_ROOT=one_crate(folder, 'places', WIDE_PLACES))
+        report.check(status == 1 and said.count('**') == len(TARGETS), f'with a product of 64 bits bin/compiled ends with {status}: {said}')
     with tempfile.TemporaryDirectory() as folder:
         status, said = run_command(RECORDER_ROOT=folder)
         report.check(status == 2 and not said, f'with nothing to compile bin/compiled ends with {status}: {said}')
-    return 'bin/compiled shows the same, and where a product is of 64 bits says so'
+    return 'bin/compiled shows the same, and two stars where a product is of 64 bits'
 
 
 def check_recorder(report):
-    """On a controller the whole recorder calls no routine for arithmetic of 64 bits."""
+    """On a controller the whole recorder calls nothing for arithmetic of 64 bits."""
+    for source, due in ROUTINES.items():
+        names = compiled.called_outside(compiled.code_of_c(source, CORTEX_M0))
+        passed = bool(names) and all(map(compiled.is_narrow, names))
+        report.check(names and passed == due, f'what {source.strip()} calls on a Cortex-M0 is taken for the other kind: {names}')
+    with tempfile.TemporaryDirectory() as folder:
+        one_crate(folder, 'recorder', WIDE_RECORDER, 'io libc', 'main.rt')
+        (Path(folder) / 'crates' / 'recorder' / 'stdout').write_bytes(WRITES)
+        status, said = run_command('--recorder', RECORDER_ROOT=folder)
+        found = re.search(r'__aeabi_lmul .*, in main\n', said) and re.search(r'(?m)^  main +\w*mul\w* ', said)
+        report.check(status == 1 and found, f'of a recorder with a product of 64 bits bin/compiled --recorder ends with {status}: {said}')
     status, said = run_command('--recorder')
-    called = re.findall(r'(?m)^ +\d+  (__\w+)', said)
-    report.check(status == 0 and called, f'bin/compiled --recorder ends with {status}: {said}')
-    for name in called:
+    names = re.findall(r'(?m)^ +\d+  (\S+)', said)
+    report.check(status == 0 and names, f'bin/compiled --recorder ends with {status}: {said}')
+    report.check(len(re.findall(r'(?m)^  \S+ +\w*mul\w* ', said)) <= 1, f'more than the one division by 3 multiplies to 64 bits on x86-64: {said}')
+    for name in names:
         report.check(compiled.is_narrow(name), f'on a Cortex-M0 the recorder calls {name}: {compiled.purpose(name)}')
-    return f'on a Cortex-M0 the recorder calls {", ".join(called)}'
+    return f'on a Cortex-M0 the recorder calls {", ".join(names)}'
 
 
 def run_command(*words, **more):

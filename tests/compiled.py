@@ -1,7 +1,8 @@
 """The code that the kit's compiler makes of a crate: for x86-64, as the kit has it made, and for a controller.
 
-rt has one LLVM module compiled for a program or a static library, and does not keep it. So rt is run here in a repository
-of links to this one, whose target/ stays as it is, and with a kit of links whose compiler is a script that keeps the module.
+rt has one LLVM module compiled for a program or a static library, and keeps neither the module nor its code as text. So once
+the crate is proved in its own place, rt is asked again in a repository of links to it, and with a kit of links whose compiler
+is a script that keeps the module and the words that it is given.
 """
 
 import os
@@ -9,6 +10,7 @@ import platform
 import re
 import subprocess
 import tempfile
+from collections import Counter
 from pathlib import Path
 from typing import NamedTuple
 
@@ -17,64 +19,81 @@ import programs
 # What rt is asked for a crate, so that its module is compiled.
 PLACES, RECORDER = ('staticlib', 'places'), ('check', 'recorder')
 KEEPS = '''#!/bin/sh
-for word; do case $word in *.bc) cp "$word" '{kept}' ;; esac; done
+for word; do case $word in *.bc) cp "$word" '{folder}/module' ;; esac; done
+printf '%s\\n' "$@" >'{folder}/words'
 exec '{compiler}' "$@"
 '''
-CALLED = re.compile(r'(?m)^\t[a-z.]+\s+(__\w+)')
-# Of the module itself: what binds it to the kit's own target.
+# What binds a module to the kit's own target.
 BOUND = re.compile(r'(?m)^target (?:datalayout|triple) = .*\n| "target-cpu"="[^"]*"')
 
 
+class Module(NamedTuple):
+    """An LLVM module as text, and the words with which the kit has it compiled."""
+
+    text: str
+    words: tuple
+
+
 class Target(NamedTuple):
-    """A processor: what the compiler is told, and its instructions that multiply, to as many bits as they take and to more."""
+    """A processor: what the compiler is told, a product that has no more bits than its factors, and what begins a comment."""
 
     what: str
-    flags: tuple
+    words: tuple
     narrow: str
-    wide: str
     comment: str
 
 
+X86_64, CORTEX_M0 = 'x86-64', 'cortex-m0'
 TARGETS = {
-    'x86-64': Target(
-        'x86-64, as the recorder is built', ('--target=x86_64-unknown-linux-gnu', '-march=x86-64'),
-        r'imul[wl]\s+[^,]+,', r'(?:i?mul[bwlq]?|mulx[lq])\s', '#',
+    X86_64: Target(
+        'x86-64, as the recorder is built', ('--target=x86_64-unknown-linux-gnu', '-march=x86-64', '-O3'), r'imul[wl] [^,]+,', '#',
     ),
-    'cortex-m0': Target(
-        'Arm Cortex-M0, a controller with no multiply wider than 32 bits', ('--target=thumbv6m-none-eabi', '-mcpu=cortex-m0'),
-        r'muls?\s', r'[us]ml?al|[us]mull|umaal', '@',
+    CORTEX_M0: Target(
+        'Arm Cortex-M0, a controller with no multiply wider than 32 bits', ('--target=thumbv6m-none-eabi', '-mcpu=cortex-m0', '-O3'),
+        r'muls? ', '@',
     ),
 }
-# Routines that a compiler calls for what the processor has no instruction for, by what they work out: of 64 bits, and of 32 or none.
-WIDE_ROUTINES = {
-    '__aeabi_lmul': 'a product of 64 bits', '__muldi3': 'a product of 64 bits', '__multi3': 'a product of 128 bits',
-    '__aeabi_uldivmod': 'a quotient of 64 bits', '__aeabi_ldivmod': 'a quotient of 64 bits', '__aeabi_llsl': 'a shift of 64 bits',
-    '__aeabi_llsr': 'a shift of 64 bits', '__udivdi3': 'a quotient of 64 bits', '__umoddi3': 'a remainder of 64 bits',
+MULTIPLIES = re.compile(r'\w*(?:mul|mla|maal)\w* ')
+CALLS = re.compile(r'(?:callq?|jmpq?|bl|blx|b|bx) (?!\.L|lr$)"?([^"]+)"?$')
+
+# What code calls on a controller that is not its own: for arithmetic of 64 bits, and for anything else. A name that is in neither is
+# taken for one of the first.
+WIDE = {
+    '__aeabi_lmul': 'a product of 64 bits', '__aeabi_uldivmod': 'a quotient of 64 bits', '__aeabi_ldivmod': 'a quotient of 64 bits',
+    '__aeabi_llsl': 'a shift of 64 bits', '__aeabi_llsr': 'a shift of 64 bits',
 }
-NARROW_ROUTINES = {
+NARROW = {
     '__aeabi_uidiv': 'a quotient of 32 bits', '__aeabi_uidivmod': 'a quotient of 32 bits, and its remainder',
     '__aeabi_memcpy': 'a copy of memory', '__aeabi_memclr': 'zeros into memory', '__aeabi_memset': 'a byte into memory',
+    'read': 'the system\'s', 'write': 'the system\'s', 'rattle_errno': 'the kit\'s, in C',
 }
 
 
 # ---- The module
 
 def module(asked):
-    """The LLVM module, as text, that rt has compiled where it is asked this for a crate."""
+    """The module that rt has compiled where it is asked this for a crate."""
     command, crate = asked
-    rt(programs.RECORDER_ROOT, 'check', crate)  # what the crate stands on is proved in its own place
-    with tempfile.TemporaryDirectory() as folder:
-        folder = Path(folder)
+    programs.kit()
+    rt(programs.RECORDER_ROOT, 'check', crate)
+    with tempfile.TemporaryDirectory() as name:
+        folder = Path(name)
         folder.chmod(0o755)  # rt runs a program as nobody
-        kept = folder / 'module.bc'
-        rt(repository(folder / 'repository', crate), command, crate, RATTLE_HOME=str(kit(folder / 'kit', kept)))
-        if not kept.is_file():
+        rt(repository(folder / 'repository', crate), command, crate, RATTLE_HOME=str(kit(folder / 'kit', folder)))
+        if not (folder / 'module').is_file():
             raise programs.Missing(f'rt {command} {crate} has no module compiled')
-        return clang('-Xclang', '-disable-llvm-passes', '-S', '-emit-llvm', '-x', 'ir', kept)
+        text = clang('-Xclang', '-disable-llvm-passes', '-S', '-emit-llvm', '-x', 'ir', folder / 'module')
+        return Module(text, compiling((folder / 'words').read_text().splitlines()))
+
+
+def compiling(words):
+    """Of the words that make an object file of a module those that say how, and not of what."""
+    paths = {'-c', '-x', 'ir', '-o', words[words.index('-o') + 1]}
+    return tuple(word for word in words if word not in paths and not word.endswith('.bc') and not word.startswith('--sysroot='))
 
 
 def repository(folder, crate):
-    """This repository once more, by links, with all proved but the crate."""
+    """The repository once more, by links, with all proved but the crate."""
     root = programs.RECORDER_ROOT.resolve()
     (folder / 'target' / 'stamp').mkdir(parents=True)
     for name in ('crates', 'crates.txt', 'target/rlib'):
@@ -85,8 +104,8 @@ def repository(folder, crate):
     return folder
 
 
-def kit(folder, kept):
-    """The kit once more, by links, but for its compiler, which keeps the module that it is given."""
+def kit(folder, keep):
+    """The kit once more, by links, but for its compiler, which keeps what it is given."""
     inner = Path('on') / platform.machine() / 'toolchain' / 'bin'
     for depth in (*reversed(inner.parents), inner):
         own = folder / depth
@@ -95,7 +114,7 @@ def kit(folder, kept):
             if not (inner / 'clang').is_relative_to(depth / path.name):
                 (own / path.name).symlink_to(path)
     script = folder / inner / 'clang'
-    script.write_text(KEEPS.format(kept=kept, compiler=programs.toolchain() / 'bin' / 'clang'))
+    script.write_text(KEEPS.format(folder=keep, compiler=programs.toolchain() / 'bin' / 'clang'))
     script.chmod(0o755)
     return folder
 
@@ -118,16 +137,19 @@ def clang(*words, text=None):
 
 # ---- Its code
 
-def assembly(text, target, kind='ir'):
-    """What the compiler makes of a module, or of C, for a target."""
-    free = BOUND.sub('', text) if kind == 'ir' else text
-    return clang(*TARGETS[target].flags, '-O3', '-Wno-override-module', '-S', '-x', kind, '-', text=free)
+def code_of(made, target):
+    """The instructions of each function of a module: on x86-64 by the kit's own words, elsewhere of the module without its target."""
+    words, text = (made.words, made.text) if target == X86_64 else (TARGETS[target].words, BOUND.sub('', made.text))
+    return functions(clang(*words, '-Wno-override-module', '-S', '-x', 'ir', '-', text=text), target)
 
 
-def functions(code, target):
-    """The instructions of each function."""
+def code_of_c(text, target):
+    return functions(clang(*TARGETS[target].words, '-S', '-x', 'c', '-', text=text), target)
+
+
+def functions(text, target):
     found, own = {}, None
-    for line in code.splitlines():
+    for line in text.splitlines():
         label = re.match(r'"?([A-Za-z_][\w:]*)"?:', line)
         if label:
             own = found.setdefault(label[1], [])
@@ -136,32 +158,31 @@ def functions(code, target):
     return found
 
 
-def narrow(instruction, target):
+def narrow_product(instruction, target):
     return bool(re.match(TARGETS[target].narrow, instruction))
 
 
-def wide(instruction, target):
-    """Whether it multiplies to more bits than its factors have, itself or by a routine."""
-    called = CALLED.search(f'\t{instruction}')
-    if called:
-        return 'product' in purpose(called[1])
-    return bool(re.match(TARGETS[target].wide, instruction)) and not narrow(instruction, target)
+def wide_product(instruction, target):
+    """Whether it multiplies to more bits than its factors have, or to more than 32."""
+    return bool(MULTIPLIES.match(instruction)) and not narrow_product(instruction, target)
 
 
-def routines(code):
-    """The support routines that are called, each with how often."""
-    called = CALLED.findall(code)
-    return {name: called.count(name) for name in sorted(set(called))}
+def called(instruction):
+    """The name of what an instruction calls, or jumps to outside its function; or None."""
+    found = CALLS.match(instruction)
+    return found[1] if found else None
 
 
-def known(routine):
-    """Its name without the alignment that some have behind it."""
-    return routine if routine in WIDE_ROUTINES else routine.rstrip('48')
+def called_outside(code):
+    """What functions call that is none of them, each with how often."""
+    names = Counter(called(line) for lines in code.values() for line in lines)
+    return {name: count for name, count in sorted((name, count) for name, count in names.items() if name and name not in code)}
 
 
-def purpose(routine):
-    return {**WIDE_ROUTINES, **NARROW_ROUTINES}.get(known(routine), 'not known here')
+def purpose(name):
+    """What a routine that is called works out; some have an alignment behind their name."""
+    return NARROW.get(name.rstrip('48')) or WIDE.get(name, 'not known here')
 
 
-def is_narrow(routine):
-    return known(routine) in NARROW_ROUTINES
+def is_narrow(name):
+    return name.rstrip('48') in NARROW

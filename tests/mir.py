@@ -9,13 +9,12 @@ COSTLY = ('mul', 'div', 'rem')
 
 
 class Operation(NamedTuple):
-    """A product, a quotient or a remainder: where it stands, of how many bits it is, what its second number is if it is written
-    there, and whether it only brings an index to its element."""
+    """A product, a quotient or a remainder: where it stands, of how many bits it is, and whether it is the compiler's own, which
+    brings an index to its element."""
 
     function: str
     what: str
     bits: int
-    second: int
     of_index: bool
 
     def __str__(self):
@@ -40,13 +39,13 @@ def read(text):
 
 
 def nodes(tree, name):
-    """All lists that begin with this word, however deep they stand: they may stand deeper than Python calls."""
+    """All lists that begin with this word, in the order of the text: they may stand deeper than Python calls."""
     left = [tree]
     while left:
         node = left.pop()
         if node[:1] == [name]:
             yield node
-        left += (part for part in node if isinstance(part, list))
+        left += reversed([part for part in node if isinstance(part, list)])
 
 
 def listed(node):
@@ -66,12 +65,18 @@ def bodies(text):
 def operations(text):
     """Every product, quotient and remainder of each function."""
     for function, kinds, body in bodies(text):
-        brought = [end for _, what, *ends in nodes(body, 'op2') if what == 'offset' for end in ends]
-        for _, place, value in nodes(body, 'assign'):
-            if value[0] == 'op2' and value[1][0] in COSTLY:
-                what, second = value[1][0], value[3]
-                number = int(second[2]) if second[0] == 'int' else None
-                yield Operation(function, what, bits(kinds, place), number, ['copy', place] in brought)
+        assigned = list(nodes(body, 'assign'))
+        for at, (_, place, value) in enumerate(assigned):
+            what = operator(value)
+            if any(costly in what.lower() for costly in COSTLY):
+                yield Operation(function, what, bits(kinds, place), brings_index(assigned[at:]))
+
+
+def operator(value):
+    """What is done with two numbers: `mul`, or `floatMul`; nothing where a value is no such thing."""
+    if value[0] != 'op2':
+        return ''
+    return value[1] if isinstance(value[1], str) else value[1][0]
 
 
 def bits(kinds, place):
@@ -81,3 +86,17 @@ def bits(kinds, place):
     if within != 'lnil' or kind[0] != 'tyInt':
         raise ValueError(f'a result goes to {place}, of which the width is not known')
     return int(kind[1])
+
+
+def brings_index(assigned):
+    """Whether the first of these is an index by the size of its element: with the address of an array after it or not, it is then
+    added to an address, and an element of that size is read or written there."""
+    (_, place, value), *after = assigned
+    if after and after[0][2][0] == 'addrOf':
+        after = after[1:]
+    if len(after) < 2 or operator(after[0][2]) != 'offset' or after[0][2][3] != ['copy', place]:
+        return False
+    pointer = after[0][1][1]
+    within = [part for _, number, parts in nodes(after[1], 'place') if number == pointer for part in listed(parts)]
+    size = next((int(part[1][1]) // 8 for part in within if part[0] == 'deref' and part[1][0] == 'tyInt'), 1)
+    return operator(value) == 'mul' and size > 1 and value[3] == ['int', '64', str(size)]

@@ -94,10 +94,10 @@ static void edges(struct group *g)
     }
 }
 
-/* Every length of 16 bits at the states where a half is at its end. */
+/* Every length of 16 bits at states in which a half is at its end, or the low half carries. */
 static void lengths(struct group *g)
 {
-    static const uint32_t at[] = { 0, 1, 0xFFFF, 0x10000, 0x10001, 0x80000000, 0xFFFF0000, 0xFFFFFFFF };
+    static const uint32_t at[] = { 0, 1, 0xFFFF, 0x10000, 0x10001, 0x1FFFF, 0x55555556, 0x80000000, 0xAAAAAAAB, 0xFFFF0000, 0xFFFFFFFF };
     for (uint32_t len = 0; len <= UINT16_MAX; len++)
         for (size_t k = 0; k < sizeof at / sizeof *at; k++)
             place(g, at[k], (uint16_t)len);
