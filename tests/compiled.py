@@ -35,26 +35,30 @@ class Module(NamedTuple):
 
 
 class Target(NamedTuple):
-    """A processor: what the compiler is told, a product that has no more bits than its factors, and what begins a comment."""
+    """A processor: what the compiler is told; an instruction whose product has no more bits than its factors, at most 32; one that
+    works in 64 bits; and what begins a comment."""
 
     what: str
     words: tuple
     narrow: str
+    in_64: str
     comment: str
 
 
 X86_64, CORTEX_M0 = 'x86-64', 'cortex-m0'
+NOTHING = r'(?!)'
 TARGETS = {
     X86_64: Target(
-        'x86-64, as the recorder is built', ('--target=x86_64-unknown-linux-gnu', '-march=x86-64', '-O3'), r'imul[wl] [^,]+,', '#',
+        'x86-64, as the recorder is built', ('--target=x86_64-unknown-linux-gnu', '-march=x86-64', '-O3'),
+        r'imul[wl] [^,(]*(?:\([^)]*\))?,', r'(?!ret|push|pop)[a-z]+q\b', '#',
     ),
     CORTEX_M0: Target(
         'Arm Cortex-M0, a controller with no multiply wider than 32 bits', ('--target=thumbv6m-none-eabi', '-mcpu=cortex-m0', '-O3'),
-        r'muls? ', '@',
+        r'muls? ', NOTHING, '@',
     ),
 }
 MULTIPLIES = re.compile(r'\w*(?:mul|mla|maal)\w* ')
-CALLS = re.compile(r'(?:callq?|jmpq?|bl|blx|b|bx) (?!\.L|lr$)"?([^"]+)"?$')
+CALLS = re.compile(r'(?:callq?|j[a-z]+|b(?:eq|ne|cs|hs|cc|lo|mi|pl|vs|vc|hi|ls|ge|lt|gt|le|l|lx|x)?) (?!\.L|lr$)"?([^"]+)"?$')
 
 # What code calls on a controller that is not its own: for arithmetic of 64 bits, and for anything else. A name that is in neither is
 # taken for one of the first.
@@ -74,7 +78,7 @@ NARROW = {
 def module(asked):
     """The module that rt has compiled where it is asked this for a crate."""
     command, crate = asked
-    programs.kit()
+    programs.kit()  # says so where there is no rt
     rt(programs.RECORDER_ROOT, 'check', crate)
     with tempfile.TemporaryDirectory() as name:
         folder = Path(name)
@@ -173,10 +177,16 @@ def called(instruction):
     return found[1] if found else None
 
 
+def more_than_32(instruction, target):
+    """Whether it works in more than 32 bits, or calls something, which may."""
+    in_64 = re.match(TARGETS[target].in_64, instruction)
+    return bool(in_64) or wide_product(instruction, target) or called(instruction) is not None
+
+
 def called_outside(code):
     """What functions call that is none of them, each with how often."""
     names = Counter(called(line) for lines in code.values() for line in lines)
-    return {name: count for name, count in sorted((name, count) for name, count in names.items() if name and name not in code)}
+    return {name: names[name] for name in sorted(names.keys() - code.keys() - {None})}
 
 
 def purpose(name):
