@@ -45,10 +45,12 @@ INSTRUCTIONS = {
              'mulxl %eax, %ecx, %edx': True, 'leaq (%rdi,%rdi,4), %rcx': True, 'shrq $32, %rax': True, 'pmuludq %xmm1, %xmm0': True,
              'mulsd %xmm1, %xmm0': True, 'jmp place': True, 'jne place': True, 'callq *%rax': True},
     CORTEX_M0: {'muls r2, r1, r2': False, 'bics r0, r1': False, 'bx lr': False, 'b .LBB0_1': False, 'bne .LBB0_1': False,
-                'umull r0, r1, r2, r3': True, 'smlal r0, r1, r2, r3': True, 'bl __aeabi_lmul': True, 'b place': True, 'beq place': True,
-                'blx r3': True},
+                'umull r0, r1, r2, r3': True, 'smlal r0, r1, r2, r3': True, 'adcs r1, r3': True, 'bl __aeabi_lmul': True, 'b place': True,
+                'beq place': True, 'blx r3': True},
 }
-# The product whole; and from four products of halves, for any length of 32 bits, of which a compiler makes it again.
+# The place with a sum of 64 bits; with the product whole; and from four products of halves, for any length of 32 bits, of which a
+# compiler makes the whole one again.
+SUM = 'unsigned place(unsigned s, unsigned len) { return ((unsigned long long)s + len + len) >> 32; }'
 WHOLE = 'unsigned place(unsigned s, unsigned len) { return (unsigned long long)s * len >> 32; }'
 FOUR = '''
 unsigned place(unsigned s, unsigned len)
@@ -88,6 +90,8 @@ fn main() {
 }
 '''
 WRITES = bytes(4)  # what it writes where nothing is read
+# The function in which the compiler may divide by 3 with a 64-bit multiply, on x86-64.
+OPENS = 'frames::session::open_reply'
 
 # ---- What is compared
 
@@ -206,9 +210,9 @@ def check_code(report):
         products = sum(compiled.narrow_product(line, target) for line in lines)
         report.check(products == due, f'{name} for {target} multiplies {products} times, and not {due}')
     for target in TARGETS:
-        for what, source in {'whole': WHOLE, 'of four': FOUR}.items():
+        for source in (SUM, WHOLE, FOUR):
             lines = compiled.code_of_c(source, target).get('place', [])
-            report.check(wide(lines, target), f'in C with the product {what} none of 64 bits is found for {target}: {lines}')
+            report.check(wide(lines, target), f'nothing of 64 bits is found for {target} in {source.strip()}: {lines}')
     return f'the code multiplies in 32 bits: {", ".join(f"{name} for {target} {due} times" for (name, target), due in PRODUCTS.items())}'
 
 
@@ -253,7 +257,8 @@ def check_recorder(report):
     status, said = run_command('--recorder')
     names = re.findall(r'(?m)^ +\d+  (\S+)', said)
     report.check(status == 0 and names, f'bin/compiled --recorder ends with {status}: {said}')
-    report.check(len(re.findall(r'(?m)^  \S+ +\w*mul\w* ', said)) <= 1, f'more than the one division by 3 multiplies to 64 bits on x86-64: {said}')
+    wide_in = re.findall(r'(?m)^  (\S+) +\w*mul\w* ', said)
+    report.check(wide_in in ([], [OPENS]), f'more than the division by 3 at an open multiplies to 64 bits on x86-64: {said}')
     for name in names:
         report.check(compiled.is_narrow(name), f'on a Cortex-M0 the recorder calls {name}: {compiled.purpose(name)}')
     return f'on a Cortex-M0 the recorder calls {", ".join(names)}'

@@ -36,7 +36,7 @@ class Module(NamedTuple):
 
 class Target(NamedTuple):
     """A processor: what the compiler is told; an instruction whose product has no more bits than its factors, at most 32; one that
-    works in 64 bits; and what begins a comment."""
+    works in 64 bits, or carries from 32 bits to the next; and what begins a comment."""
 
     what: str
     words: tuple
@@ -46,7 +46,6 @@ class Target(NamedTuple):
 
 
 X86_64, CORTEX_M0 = 'x86-64', 'cortex-m0'
-NOTHING = r'(?!)'
 TARGETS = {
     X86_64: Target(
         'x86-64, as the recorder is built', ('--target=x86_64-unknown-linux-gnu', '-march=x86-64', '-O3'),
@@ -54,7 +53,7 @@ TARGETS = {
     ),
     CORTEX_M0: Target(
         'Arm Cortex-M0, a controller with no multiply wider than 32 bits', ('--target=thumbv6m-none-eabi', '-mcpu=cortex-m0', '-O3'),
-        r'muls? ', NOTHING, '@',
+        r'muls? ', r'(?:adc|sbc)s? ', '@',
     ),
 }
 MULTIPLIES = re.compile(r'\w*(?:mul|mla|maal)\w* ')
