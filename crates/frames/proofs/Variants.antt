@@ -21,7 +21,7 @@ not-refused (Refused r) k = absurd (miss (1 ∷ 2 ∷ 3 ∷ 4 ∷ 5 ∷ []) 0 tt
 not-refused Done k = refl
 not-refused (Ordered inspect) k = refl
 not-refused (Held e) k = refl
-not-refused (Gap first count) k = refl
+not-refused (Gap first lost count) k = refl
 not-refused Nothing k = refl
 
 pub gives-again : (s : Standing) (queue : List ℕ) (f : Frame) (r : Standing) (before : List ℕ) (at : ℕ) (out : List ℕ)
