@@ -59,7 +59,7 @@ pub fn answer_values(a: Answer) -> Values
             let kind = (e.head / 16777216) as u8;
             values(0, kind, e.head % 16777216, e.unit, e.value)
         }
-        Answer::Gap { first, count } => values(0, 9, first, 0, count),
+        Answer::Gap { first, lost, count } => values(0, 9, first, lost, count),
         Answer::Nothing => values(0, 0, 0, 0, 0),
     }
 }

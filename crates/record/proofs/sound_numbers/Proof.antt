@@ -9,4 +9,4 @@ unfolding _and_ _or_ soundNumbers
 returns c = search needs
 
 pub sound-numbers-spec : {M : Type 1} → statement M
-sound-numbers-spec = tie.close (tie.spec (λ c. search needs) (λ c. search needs) (λ c. search needs) returns)
+sound-numbers-spec = tie.close (tie.spec (λ c. search needs) (λ c. search needs) (λ c. search needs) (λ c. search needs) (λ c. search needs) (λ c. search needs) (λ c. search needs) returns)
