@@ -9,7 +9,7 @@ ghost use mathlib.Core.Path.{_≡_};
 ghost use lib.ListN.{length};
 
 // The words that answer a request, none where it is no request.
-fn told(head: &[u32; 44], queue: &mut [u32], scan: Scan, out: &mut [u8]) -> usize {
+fn told(head: &[u32; 45], queue: &mut [u32], scan: Scan, out: &mut [u8]) -> usize {
     let h = *head;
     let code = h[0];
     if !request::whole(scan, code) {
@@ -21,14 +21,14 @@ fn told(head: &[u32; 44], queue: &mut [u32], scan: Scan, out: &mut [u8]) -> usiz
     shown::put_words(out, at, &queue[0..n])
 }
 
-fn answer(head: &[u32; 44], queue: &mut [u32], scan: Scan, out: &mut [u8]) {
+fn answer(head: &[u32; 45], queue: &mut [u32], scan: Scan, out: &mut [u8]) {
     let at = told(head, queue, scan, out);
     let end = shown::put_end(out, at);
     io::write_all(STDOUT_FILENO, &out[0..end]);
 }
 
 // One byte more; a line feed ends a request.
-fn fed(b: u8, before: Scan, head: &mut [u32; 44], queue: &mut [u32], out: &mut [u8]) -> Scan {
+fn fed(b: u8, before: Scan, head: &mut [u32; 45], queue: &mut [u32], out: &mut [u8]) -> Scan {
     let scan = request::scanned(before, b, head, queue);
     if b != b'\n' {
         return scan;
@@ -40,7 +40,7 @@ fn fed(b: u8, before: Scan, head: &mut [u32; 44], queue: &mut [u32], out: &mut [
 fn feed(
     chunk: &[u8],
     before: Scan,
-    head: &mut [u32; 44],
+    head: &mut [u32; 45],
     queue: &mut [u32],
     out: &mut [u8],
 ) -> Scan {
@@ -54,7 +54,7 @@ fn feed(
 }
 
 // That the turns are counted is for the proof alone: no run uses them up.
-fn run(chunk: &mut [u8], head: &mut [u32; 44], queue: &mut [u32], out: &mut [u8]) {
+fn run(chunk: &mut [u8], head: &mut [u32; 45], queue: &mut [u32], out: &mut [u8]) {
     let mut turns = u64::MAX;
     let mut scan = request::fresh();
     while 0 < turns {
@@ -88,7 +88,7 @@ fn out_space() -> [u8; 112000]
 
 fn main() {
     let mut chunk = chunk_space();
-    let mut head = [0u32; 44];
+    let mut head = [0u32; 45];
     let mut queue = queue_space();
     let mut out = out_space();
     run(&mut chunk, &mut head, &mut queue, &mut out);

@@ -48,19 +48,19 @@ fn digit(b: u8) -> u32
     16
 }
 
-fn store(head: &mut [u32; 44], queue: &mut [u32], at: usize, value: u32) {
-    if at < 44 {
+fn store(head: &mut [u32; 45], queue: &mut [u32], at: usize, value: u32) {
+    if at < 45 {
         head[at] = value;
         return;
     }
-    let k = at - 44;
+    let k = at - 45;
     if k < queue.len() {
         queue[k] = value;
     }
 }
 
 // One byte more: a digit goes to the word, any other byte ends it. Words beyond the queue's room are not counted.
-pub fn scanned(scan: Scan, b: u8, head: &mut [u32; 44], queue: &mut [u32]) -> Scan {
+pub fn scanned(scan: Scan, b: u8, head: &mut [u32; 45], queue: &mut [u32]) -> Scan {
     let d = digit(b);
     if d < 16 {
         return Scan {
@@ -72,7 +72,7 @@ pub fn scanned(scan: Scan, b: u8, head: &mut [u32; 44], queue: &mut [u32]) -> Sc
     if scan.digits == 0 {
         return scan;
     }
-    if scan.words > 12443 {
+    if scan.words > 12444 {
         return scan;
     }
     store(head, queue, scan.words, scan.value);
@@ -84,20 +84,20 @@ pub fn scanned(scan: Scan, b: u8, head: &mut [u32; 44], queue: &mut [u32]) -> Sc
 }
 
 pub fn whole(scan: Scan, code: u32) -> bool {
-    (44 <= scan.words) & (1 <= code) & (code <= 8)
+    (45 <= scan.words) & (1 <= code) & (code <= 8)
 }
 
 pub fn queue_words(scan: Scan, queue: &[u32]) -> usize
     ensures { λ r. ⌜ r ≤ length (now (queue .entry)) ⌝ }
 {
-    if scan.words < 44 {
+    if scan.words < 45 {
         return 0;
     }
-    let n = scan.words - 44;
+    let n = scan.words - 45;
     if n < queue.len() { n } else { queue.len() }
 }
 
-fn phase_of(h: [u32; 44]) -> Phase {
+fn phase_of(h: [u32; 45]) -> Phase {
     if h[16] == 0 {
         return Phase::Screen(Screening {
             need: h[17],
@@ -117,14 +117,14 @@ fn phase_of(h: [u32; 44]) -> Phase {
 }
 
 // Six zeros are no plan.
-fn waiting_of(h: [u32; 44]) -> Waiting {
+fn waiting_of(h: [u32; 45]) -> Waiting {
     let next = Plan {
-        kind: h[38],
-        n: h[39],
-        i: h[40],
-        s: h[41],
-        x: h[42],
-        period: h[43],
+        kind: h[39],
+        n: h[40],
+        i: h[41],
+        s: h[42],
+        x: h[43],
+        period: h[44],
     };
     if (next.kind == 0)
         & (next.n == 0)
@@ -138,7 +138,7 @@ fn waiting_of(h: [u32; 44]) -> Waiting {
     Waiting::Next(next)
 }
 
-fn station_of(h: [u32; 44]) -> Station {
+fn station_of(h: [u32; 45]) -> Station {
     let plan = Plan {
         kind: h[8],
         n: h[9],
@@ -163,6 +163,7 @@ fn station_of(h: [u32; 44]) -> Station {
         told: h[35],
         oldest: h[36],
         next: h[37],
+        lost: h[38],
     };
     let phase = phase_of(h);
     let waiting = waiting_of(h);
@@ -181,7 +182,7 @@ fn station_of(h: [u32; 44]) -> Station {
     }
 }
 
-fn changed(h: [u32; 44], s: Station, q: &mut [u32]) -> Turn {
+fn changed(h: [u32; 45], s: Station, q: &mut [u32]) -> Turn {
     let plan = Plan {
         kind: h[1],
         n: h[2],
@@ -193,7 +194,7 @@ fn changed(h: [u32; 44], s: Station, q: &mut [u32]) -> Turn {
     station::change(s, q, plan, h[7] != 0)
 }
 
-fn opened(h: [u32; 44], q: &mut [u32]) -> Turn {
+fn opened(h: [u32; 45], q: &mut [u32]) -> Turn {
     let plan = Plan {
         kind: h[1],
         n: h[2],
@@ -206,7 +207,7 @@ fn opened(h: [u32; 44], q: &mut [u32]) -> Turn {
 }
 
 // The call, by its code.
-pub fn made(h: [u32; 44], q: &mut [u32]) -> Turn {
+pub fn made(h: [u32; 45], q: &mut [u32]) -> Turn {
     if h[0] == 1 {
         return opened(h, q);
     }

@@ -73,7 +73,7 @@ fn waiting_words(w: Waiting) -> [u32; 6] {
     }
 }
 
-fn record_words(s: Station) -> [u32; 36] {
+fn record_words(s: Station) -> [u32; 37] {
     let stream = s.stream;
     let phase = stream.phase;
     let p = phase_words(phase);
@@ -113,6 +113,7 @@ fn record_words(s: Station) -> [u32; 36] {
         s.numbers.told,
         s.numbers.oldest,
         s.numbers.next,
+        s.numbers.lost,
         w[0],
         w[1],
         w[2],
