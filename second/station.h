@@ -1,5 +1,6 @@
-/* The station of document 01, with W1 and W2 of document 02: a change of plan,
-   and a check find that leaves screened as it is. */
+/* The station of document 01, with W1, W2 and W4 of document 02: a change of
+   plan, a check find that leaves screened as it is, and a gap marker that tells
+   how many LONG events were lost. */
 #ifndef STATION_H
 #define STATION_H
 
@@ -45,12 +46,13 @@ struct station {
     uint32_t conforming, defective, passed, missed, owed, last;
     uint32_t silent, heard;
     uint32_t told, oldest, next;                 /* d, o, e */
+    uint32_t lost;                               /* LONG from d to o - 1 */
     struct plan waiting;                         /* six zeros: none waits */
 };
 
-enum { STATION_WORDS = 36 };
+enum { STATION_WORDS = 37 };
 _Static_assert(sizeof(struct station) == STATION_WORDS * sizeof(uint32_t),
-               "a record is 36 words");
+               "a record is 37 words");
 
 /* The queue memory lent by the caller. */
 struct memory {
