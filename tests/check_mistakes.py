@@ -13,11 +13,12 @@ from parallel import in_parallel
 from probes import Probes
 
 TRIES = 500
-CALLS = {'willing': 10_000, 'changes': 4_000}
+CALLS = {'willing': 10_000, 'changes': 4_000, 'damaged': 2_000}
 # What each mistake shows in is little: the program must agree with at least this share of all sessions, and of all calls.
 AGREED = 0.75
-# Refusal 10 comes after eight million events: a mistake in it shows in calls alone.
-IN_CALLS_ALONE = (9,)
+# Refusal 10 comes after eight million events, and no history makes the records that 24 and 25 judge otherwise: these show
+# in calls alone.
+IN_CALLS_ALONE = (9, 24, 25)
 
 
 def check(report, pair, options):
@@ -59,7 +60,7 @@ def caught(report, number, words, sessions):
 
 
 def probe_calls(seed):
-    """Single calls that can mostly be done, each with the answer that is due."""
+    """Single calls that can mostly be done, and some on a record with one number off, each with the answer that is due."""
     for kind, count in CALLS.items():
         for made in getattr(Probes(f'{seed}-mistakes-{kind}'), kind)(count):
             yield probes.written(made.words()), probes.written(model.probe(made.words()))
