@@ -1,5 +1,5 @@
 """The model against the documents' own numbers: document 01's example, its nine cases and what it says of the tables, and
-the sentences of document 02 on a change of plan and on a check find.
+the sentences of document 02 on a change of plan, on a check find and on what a gap marker has lost.
 
 Every other part compares with the model, so the model must have been held to the document first.
 """
@@ -36,13 +36,13 @@ def check(report, pair, options):
     for number, case in enumerate(cases, 1):
         for at, holds in enumerate(case(), 1):
             report.check(holds, f'the model breaks document 01\'s case {number}, at its check {at}')
-    for request, requested in (('W1', CHANGES), ('W2', FINDS)):
+    for request, requested in (('W1', CHANGES), ('W2', FINDS), ('W4', LOSSES)):
         for case in requested:
             for at, holds in enumerate(case(), 1):
                 report.check(holds, f'the model breaks {request} in {case.__name__}, at its check {at}')
     for law, holds in table_laws().items():
         report.check(holds, f'the model\'s tables: {law}')
-    requests = f'{len(CHANGES)} changes of plan, {len(FINDS)} laws of a find'
+    requests = f'{len(CHANGES)} changes of plan, {len(FINDS)} laws of a find, {len(LOSSES)} of what a marker has lost'
     return f'the example, {len(cases)} cases, {requests} and {len(table_laws())} laws of the tables'
 
 
@@ -156,6 +156,7 @@ def case_8():
 
 
 def case_9():
+    """W4: the marker shows 0 LONG."""
     script = opened(CSP_1, 2, 1)
     script.tick(10)
     yield script.take() == (0, 9, 1, 0, 3)
@@ -330,6 +331,112 @@ def unrecalled_at_most_screened():
 
 
 FINDS = (find_leaves_screened, alarm_follows, new_sequence_counts_anew, unrecalled_at_most_screened)
+
+
+# ---- W4: what a marker has lost. With i 1 and S 1 each defect in screening is DEFECT and LONG, the first of them 2 and 3.
+
+def numbers(script):
+    st = script.station
+    return st.told, st.oldest, st.next, st.lost
+
+
+def marker_owns_up():
+    """Its unit word is the number of LONG events among those it names, and the next one counts anew."""
+    script = opened(CSP_1, 2, 1, 1)
+    yield numbers(script) == (1, 1, 2, 0)
+    script.bad(4)
+    yield numbers(script) == (1, 2, 10, 0)
+    script.bad()
+    yield numbers(script) == (1, 4, 12, 1)
+    script.bad()
+    yield numbers(script) == (1, 6, 14, 2)
+    yield script.take() == (0, 9, 1, 2, 5)
+    yield numbers(script) == (6, 6, 14, 0)
+    script.tick(2)
+    yield script.take() == (0, 9, 6, 0, 1)
+    script.tick()
+    yield script.take() == (0, 9, 7, 1, 1)
+    yield script.take() == (0, DEFECT, 8, 4, 0)
+    yield script.take() == (0, LONG, 9, 4, 4)
+
+
+def counted_where_dropped():
+    """A LONG that finds the queue full counts nothing when it comes, and 1 when a later event drops it."""
+    script = opened(CSP_1, 2, 1, 1)
+    script.tick(7)
+    script.bad()
+    yield numbers(script) == (1, 3, 11, 0)
+    yield script.take() == (0, 9, 1, 0, 2)
+    script.tick(8)
+    yield numbers(script) == (3, 10, 18, 0)
+    script.tick()
+    yield numbers(script) == (3, 11, 19, 1)
+    yield script.take() == (0, 9, 3, 1, 8)
+
+
+def neither_told_nor_held():
+    """A LONG that was told and one that is held are none of those that a marker names."""
+    script = opened(CSP_1, 2, 1, 1)
+    script.bad(2)
+    yield script.take(3) == (0, LONG, 3, 1, 1)
+    script.tick(8)
+    yield script.take() == (0, 9, 4, 0, 1)
+    yield script.take() == (0, LONG, 5, 2, 2)
+
+
+def two_of_three():
+    """One call may drop three, the first and the last of them LONG."""
+    script = opened(CSP_1, 2, 1, 1)
+    script.bad(2)
+    script.good()
+    script.take(2)
+    script.change(CSP_1, 3, 2, 2)
+    script.tick(5)
+    yield numbers(script) == (3, 3, 11, 0)
+    script.interrupt()
+    yield numbers(script) == (3, 6, 14, 2)
+    yield script.take() == (0, 9, 3, 2, 3)
+
+
+def kind_in_memory():
+    """What is dropped is read where it stands: kind 3, whatever its number, even if another has written it; no other kind."""
+    for head, lost in ((0x03000000, 1), (0x03FFFFFF, 1), (0x04000003, 0), (0x02FFFFFF, 0), (0x83000001, 0), (0x00030303, 0), (3, 0)):
+        script = opened(CSP_1, 2, 1, 1)
+        script.tick(7)
+        script.program.queue[0:3] = head, 0x03000000, 0x03000000
+        script.tick()
+        yield script.take() == (0, 9, 1, lost, 1)
+
+
+def no_call_else():
+    """Refused calls and calls that raise nothing leave it; a refused open has 0."""
+    script = opened(CSP_1, 3, 1, 1)
+    script.bad(5)
+    script.unit()
+    yield script.unit() == refused(4) and script.result(2) == refused(9)
+    yield script.tick() == DONE and script.change(CSP_2, 2, 1) == refused(4)
+    yield numbers(script) == (1, 4, 12, 1)
+    answer, station = model.open_station(script.program.queue, CSP_1, 1, 1, 1, 0, 0, 0)
+    yield answer == refused(3) and station.words() == [0] * 37
+
+
+def at_most_the_gap():
+    """In a sound record the count is at most the gap's length, and 0 where there is none; every call on another gets 2."""
+    script = opened(CSP_1, 2, 1, 1)
+    script.bad(5)
+    for lost, sound in ((0, True), (3, True), (4, False), (2 ** 32 - 1, False)):
+        script.station.lost = lost
+        yield model.sound(script.station) == sound
+    yield script.take() == refused(2) == script.tick()
+    script.station.lost = 3
+    yield script.take() == (0, 9, 1, 3, 3)
+    script.station.lost = 1
+    yield script.take() == refused(2)
+
+
+LOSSES = (
+    marker_owns_up, counted_where_dropped, neither_told_nor_held, two_of_three, kind_in_memory, no_call_else, at_most_the_gap,
+)
 
 
 # ---- The tables
