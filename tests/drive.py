@@ -2,7 +2,9 @@
 
 import random
 
-from model import CSP_2, CSP_F, CSP_T, CSP_V, SAMPLING, SCREENING, TABLE_V_AQL, UNIT_LIMIT, refused, sound, written
+from model import (
+    CSP_2, CSP_F, CSP_T, CSP_V, LONG, PROGRAM_ROOM, SAMPLING, SCREENING, TABLE_V_AQL, UNIT_LIMIT, refused, sound, written,
+)
 from reached import Watcher, waits
 from script import Script, words
 
@@ -33,15 +35,20 @@ class Driver(Script):
         self.watcher = Watcher()
         self.weights = PROFILES[self.random.choice(list(PROFILES))]
         self.bad_share = 0.0
-        self.unsound = []
+        self.faults = []
 
     def line(self, text):
         before = self.watcher.view(self.station)
         answer = super().line(text)
-        self.watcher.observe(text, before, answer, self.station)
-        if self.station and not sound(self.station):
-            self.unsound.append(len(self.lines))
+        self.watcher.observe(text, before, answer, self.station, self.program.queue)
+        if self.station:
+            self.hold(sound(self.station), 'the record is not sound')
+            self.hold(self.station.lost == self.watcher.raised.in_gap(self.station), 'lost is not the number of LONG events in the gap')
         return answer
+
+    def hold(self, good, what):
+        if not good:
+            self.faults.append(f'after frame {len(self.lines)} {what}')
 
     def chance(self, share):
         return self.random.random() < share
@@ -81,6 +88,8 @@ class Driver(Script):
             self.result(1 if self.chance(max(self.bad_share, self.luck())) else 0)
         elif self.recallable() and self.chance(0.2):
             self.find()
+        elif self.alarm_held() and self.chance(0.2):
+            self.push_out()
         elif self.chance(self.wish()):
             self.change_to(*self.random.choice(ALLOWED))
         else:
@@ -118,6 +127,25 @@ class Driver(Script):
     def recallable(self):
         """A find under need x seldom comes by itself."""
         return not self.station.owed and self.station.unrecalled and self.reduced()
+
+    def held(self):
+        """The kinds in the queue, the oldest first."""
+        return self.watcher.raised.kinds[self.station.oldest - 1:]
+
+    def alarm_held(self):
+        """LONG is in the queue as sampling is in force: three events of one call seldom drop one by themselves."""
+        st = self.station
+        return st.C == PROGRAM_ROOM and st.phase == SAMPLING and not st.owed and LONG in self.held()
+
+    def push_out(self):
+        """A LONG among the oldest, a lower frequency that mostly waits, a full queue, and what takes the plan up."""
+        oldest = self.random.randrange(1, 4)
+        while LONG not in self.held()[:oldest]:
+            self.take()
+        self.change_to(1, 1)
+        while len(self.held()) < PROGRAM_ROOM:
+            self.tick()
+        self.random.choice((self.do_interrupt, self.do_jump))()
 
     # ---- Opens
 

@@ -5,12 +5,12 @@ from operator import attrgetter
 
 from model import (
     CHANGE, CHECK, CSP_2, CSP_F, CSP_T, CSP_V, DEFECT, INTERRUPT, LONG, MARKER, MISSED, NO_PLAN, PHASE, PLAN, SAMPLING, SCREENING,
-    SILENCE, START, UNIT_LIMIT, WAITING_FIELDS, read_frame, waiting_plan,
+    SILENCE, START, UNIT_LIMIT, WAITING_FIELDS, read_frame, slot, waiting_plan,
 )
 
 SEEN = (
-    'type', 'n', 'i', 'S', 'x', 'N', 'phase', 'need', 'run', 'screened', 'unrecalled', 'level', 'place', 'row', 'watch', 'watched',
-    'owed', 'last', 'silent', 'heard', 'told', 'oldest', 'next', *WAITING_FIELDS,
+    'type', 'n', 'i', 'S', 'x', 'N', 'C', 'phase', 'need', 'run', 'screened', 'unrecalled', 'level', 'place', 'row', 'watch', 'watched',
+    'owed', 'last', 'silent', 'heard', 'told', 'oldest', 'next', 'lost', *WAITING_FIELDS,
 )
 View = namedtuple('View', SEEN)
 look = attrgetter(*SEEN)
@@ -79,6 +79,20 @@ NO_PLACES = (
     'unit in sampling', 'a level begins', 'watch starts', 'watch ends', 'tick in sampling',
 )
 
+# What is dropped counts, and not what drops it: every kind but START, which comes first, drops a LONG. Neighbours are never
+# both LONG, since each follows its DEFECT.
+LOST = (
+    *(f'marker that lost {how_many} LONG' for how_many in ('no', 'one', 'two or three', 'four or more')),
+    'marker of a LONG alone', 'marker that lost no LONG, one told before', 'marker that lost no LONG, one held',
+    'marker that lost LONG after another that did', 'marker that lost no LONG after one that did',
+    *(f'LONG dropped by {KINDS[kind]}' for kind in KINDS if kind not in (START, MARKER)),
+    'LONG raised into a full queue drops no LONG',
+    'one LONG of two dropped in one call', 'one LONG of three dropped in one call', 'two LONG of three dropped in one call',
+    'LONG dropped, another held', 'LONG dropped, none held', 'LONG dropped in several calls before the marker',
+    'first LONG dropped as a gap widens', 'gap that lost LONG widens with none',
+    'LONG lost, a call that raises nothing', 'LONG lost, a refused call',
+)
+
 # What a run must reach at least once. Refusal 1 needs another memory and 10 eight million events: neither is a
 # matter of random frames, and other parts reach both.
 GOALS = (
@@ -117,6 +131,7 @@ GOALS = (
     'jump to the new i after i good samples', 'interrupt to the new i after i good samples',
     *(f'not taken up: {turn}' for turn in NO_PLACES),
     'three events in one call', 'three drops in one call',
+    *LOST,
 )
 
 
@@ -164,6 +179,58 @@ class Finds:
                 yield 'LONG after a find and a change at once'
 
 
+class Raised:
+    """The kinds of all events raised, the first at 0: what a gap lost is told by them, whatever the record says."""
+
+    def __init__(self):
+        self.kinds = []
+        self.told = False  # whether a LONG has been taken
+        self.lost = []     # how many LONG events each marker has told
+
+    def hear(self, station, queue):
+        """The events of a call, which are held when it ends."""
+        for number in range(len(self.kinds) + 1, station.next):
+            self.kinds.append(queue[slot(station, number)] >> 24)
+
+    def in_gap(self, station):
+        return self.kinds[station.told - 1:station.oldest - 1].count(LONG)
+
+    def dropped(self, before, after):
+        """Event m drops event m - C."""
+        gone = self.kinds[before.oldest - 1:after.oldest - 1]
+        for kind, comes in zip(gone, self.kinds[before.oldest - 1 + before.C:]):
+            if kind == LONG:
+                yield f'LONG dropped by {KINDS[comes]}'
+            elif comes == LONG:
+                yield 'LONG raised into a full queue drops no LONG'
+        if LONG in gone:
+            yield from self.long_dropped(before, after, gone.count(LONG), len(gone))
+        elif before.lost:
+            yield 'gap that lost LONG widens with none'
+
+    def long_dropped(self, before, after, alarms, gone):
+        yield f'LONG dropped, {"another" if LONG in self.kinds[after.oldest - 1:] else "none"} held'
+        if gone > 1:
+            yield f'{("one", "two")[alarms - 1]} LONG of {("two", "three")[gone - 2]} dropped in one call'
+        if before.lost:
+            yield 'LONG dropped in several calls before the marker'
+        elif before.told < before.oldest:
+            yield 'first LONG dropped as a gap widens'
+
+    def marker(self, before):
+        lost = self.in_gap(before)
+        yield f'marker that lost {("no", "one", "two or three", "two or three", "four or more")[min(lost, 4)]} LONG'
+        if lost == before.oldest - before.told:
+            yield 'marker of a LONG alone'
+        if any(self.lost):
+            yield 'marker that lost LONG after another that did' if lost else 'marker that lost no LONG after one that did'
+        if not lost and self.told:
+            yield 'marker that lost no LONG, one told before'
+        if not lost and LONG in self.kinds[before.oldest - 1:]:
+            yield 'marker that lost no LONG, one held'
+        self.lost.append(lost)
+
+
 class Watcher:
     """Looks at the record before and after each frame."""
 
@@ -172,6 +239,7 @@ class Watcher:
         self.watches = 0
         self.old_S = 0
         self.finds = Finds()
+        self.raised = Raised()
         self.calls = {
             1: self.opened, 2: self.unit, 3: self.result, 4: self.interrupt, 5: self.find, 6: self.tick, 7: self.take,
             8: self.opened, CHANGE: self.changed,
@@ -183,16 +251,17 @@ class Watcher:
     def reach(self, *goals):
         self.count.update(goals)
 
-    def observe(self, text, before, answer, station):
+    def observe(self, text, before, answer, station, queue):
         frame = read_frame(text)
         refusal = answer[0]
         if refusal:
-            self.reach(f'refusal {refusal}')
+            self.reach(f'refusal {refusal}', *(['LONG lost, a refused call'] if before and before.lost else []))
         if frame is None:
             self.ill_formed(text)
         elif refusal:
             self.refused(frame, before, refusal)
         else:
+            self.raised.hear(station, queue)
             self.calls[frame[0]](frame, before, answer, self.view(station))
             if before:
                 self.drops(before, self.view(station))
@@ -338,15 +407,21 @@ class Watcher:
     def take(self, frame, before, answer, after):
         kind, count = answer[1], answer[4]
         self.reach(f'taken {KINDS[kind]}' if kind else 'nothing to take')
-        if kind == MARKER and count > 2:
-            self.reach('marker of more than two')
+        if kind == LONG:
+            self.raised.told = True
+        if kind == MARKER:
+            self.reach(*self.raised.marker(before), *(['marker of more than two'] if count > 2 else []))
 
     def drops(self, before, after):
         """What a call that raised events pushed out."""
         if after.next == before.next + 3:
             self.reach('three events in one call')
-        if after.next == before.next or after.oldest == before.oldest:
+        if after.next == before.next:
+            self.reach(*(['LONG lost, a call that raises nothing'] if before.lost and before.told == after.told else []))
             return
+        if after.oldest == before.oldest:
+            return
+        self.reach(*self.raised.dropped(before, after))
         self.reach('gap widens' if before.told < before.oldest else 'gap begins')
         if after.oldest > before.oldest + 1:
             self.reach('two drops in one call' if after.oldest == before.oldest + 2 else 'three drops in one call')
