@@ -178,7 +178,7 @@ def case_8_check_finds(s):
 
 @session
 def case_9_ten_ticks(s):
-    """Case 9: open and ten ticks: the marker names 1 and count 3, then come the events 4 to 11."""
+    """Case 9: open and ten ticks: the marker names 1, no LONG and count 3, then come the events 4 to 11."""
     s.open(CSP_1, 2, 1)
     s.tick(10)
     s.take(10)
@@ -1541,6 +1541,159 @@ def find_and_a_change(s):
     s.take_all()
 
 
+# ---- Lost alarms: document 02, W4
+
+@session
+def lost_none(s):
+    """S = 1: a LONG told before the overflow and two still held do not count: of the one event dropped none was LONG."""
+    s.open(CSP_1, 2, 1)
+    s.bad(3)
+    s.take(3)
+    # 4 to 11 fill the queue, and 12 drops 4, a DEFECT
+    s.tick(6)
+    s.take_all()
+
+
+@session
+def lost_one(s):
+    """S = 1: three silences drop START, DEFECT and LONG: the marker has 1 of 3, and the next LONG is held and told."""
+    s.open(CSP_1, 2, 1)
+    s.bad(2)
+    # the queue is full
+    s.tick(4)
+    s.tick(3)
+    s.take_all()
+
+
+@session
+def lost_alone(s):
+    """S = 1: a gap of one number that was a LONG has 1 of 1, dropped by a silence; then by DEFECT and LONG that find one place free."""
+    s.open(CSP_1, 2, 1)
+    s.bad(2)
+    s.take(2)
+    s.tick(7)
+    s.take_all()
+    # 13 to 19 leave one place free: DEFECT takes it, and LONG drops 13, a LONG
+    s.bad(2)
+    s.take()
+    s.tick(5)
+    s.bad()
+    s.take_all()
+
+
+@session
+def lost_several(s):
+    """S = 1: eight defects and no take: the count goes on from call to call as the gap widens, to 4 of 9."""
+    s.open(CSP_1, 2, 1)
+    s.bad(8)
+    s.take_all()
+
+
+@session
+def lost_whatever_comes(s):
+    """What is dropped counts and not what comes: a LONG that drops a silence; then LONG dropped by a silence, a LONG, a DEFECT."""
+    s.open(CSP_1, 2, 3)
+    # the third defect is LONG, and drops 3, a silence: 0 of 3
+    s.tick(6)
+    s.bad(3)
+    s.take(8)
+    # that LONG, 11, is the oldest of eight, and a silence drops it: 1 of 1
+    s.tick(9)
+    s.take_all()
+    # DEFECT 28 drops DEFECT 20 and LONG 29 drops LONG 21: 1 of 2
+    s.bad()
+    s.tick(7)
+    s.bad()
+    s.take_all()
+    # DEFECT 39 drops LONG 31 and LONG 40 drops DEFECT 32: 1 of 2
+    s.bad(2)
+    s.take()
+    s.tick(6)
+    s.bad()
+    s.take_all()
+
+
+@session
+def lost_two_of_three(s):
+    """One call drops LONG, DEFECT and LONG, 2 of 3; later one drops DEFECT, LONG and PHASE, 1 of 3. No two neighbours are LONG."""
+    s.open(CSP_1, 2, 1)
+    s.bad(2)
+    s.good()
+    s.change(CSP_1, 3, 2)
+    s.take(2)
+    # 3 to 10 fill the queue: INTERRUPT, PHASE and PLAN drop 3 to 5
+    s.tick(5)
+    s.interrupt()
+    s.take_all()
+    s.bad(2)
+    s.good(2)
+    s.change(CSP_1, 5, 3)
+    s.take()
+    # 15 to 22 fill it: DEFECT, PHASE and PLAN drop 15 to 17
+    s.tick(6)
+    s.bad()
+    s.take_all()
+
+
+@session
+def lost_anew_after_a_marker(s):
+    """S = 1: each marker counts anew what it names: 1 of 3, 0 of 1, 2 of 4; a LONG told, and then 1 of 2."""
+    s.open(CSP_1, 2, 1)
+    s.bad(5)
+    s.take()
+    s.tick(2)
+    s.take()
+    s.bad(2)
+    # the marker, and 9, a LONG
+    s.take(2)
+    s.tick(4)
+    s.take_all()
+
+
+@session
+def lost_until_the_marker(s):
+    """A count that waits for its marker is moved by no refused call and by none that drops nothing: 1 of 4."""
+    s.open(CSP_1, 3, 2)
+    s.bad(4)
+    s.tick(5)
+    s.unit()
+    s.unit()
+    s.result(2)
+    s.result(0)
+    s.result(0)
+    s.unit(1)
+    s.unit(1_000_001)
+    s.tick()
+    # one plan that waits, one of another type, one out of range
+    s.change(CSP_1, 2, 1)
+    s.change(CSP_2, 2, 1)
+    s.change(CSP_1, 4, 3, 2)
+    s.open(CSP_1, 2, 1)
+    s.line(b'07 ')
+    s.take_all()
+
+
+@session
+def lost_over_a_weekend(s):
+    """Letter A, AQL 10.0: the alarm at the 12th unit screened is Friday's last, and twelve silences push it out: 1 of 10."""
+    s.table(CSP_T, A, 10_000)
+    s.bad()
+    s.good(4)
+    s.bad()
+    s.good(4)
+    s.bad(2)
+    s.tick(13)
+    s.take_all()
+
+
+@session
+def lost_none_under_csp_f(s):
+    """CSP-F has no alarm: of the events that twelve defects push out none was LONG."""
+    s.open(CSP_F, 2, 3, N=50)
+    s.bad(12)
+    s.take_all()
+
+
 # ---- How long the line can go unseen: document 02, W13
 
 @session
@@ -2414,3 +2567,30 @@ def pinned_change_v(s):
     s.bad()
     s.good()
     s.take_all()
+
+
+@session
+def pinned_csp_1_lost(s):
+    """Pinned. CSP-1: a marker counts the LONG events that it names, whatever dropped them; each counts anew."""
+    s.open(CSP_1, 2, 1, seed=0x6A09E667)
+    # LONG at every defect: the fifth has dropped START, DEFECT and LONG, 1 of 3
+    s.bad(5)
+    s.take()
+    # a silence drops a DEFECT: 0 of 1
+    s.tick(2)
+    s.take()
+    # two calls drop LONG and DEFECT each: 2 of 4
+    s.bad(2)
+    s.take()
+    # a LONG is told, one is held, and a DEFECT between them is dropped: 0 of 1; then the one held alone: 1 of 1
+    s.take()
+    s.tick(3)
+    s.take()
+    s.tick()
+    s.take()
+    # PHASE drops a silence, a silence a DEFECT, and one call LONG, DEFECT and LONG: 2 of 5
+    s.good()
+    s.change(CSP_1, 3, 2)
+    s.tick(2)
+    s.interrupt()
+    s.take(2)
