@@ -1,8 +1,9 @@
-"""How long the line can go unseen: request W13 read off frames and answers, of stored sessions and of random ones.
+"""How long the line can go unseen: request W13 read off frames and answers, of stored sessions and of random ones; and
+what a marker has lost, request W4.
 
-A reading that finds no fault shows little if it could find none. So wrong readings, each with one sentence of the
+A reading that finds no fault shows little if it could find none. So wrong readings, each with one sentence of a
 request taken otherwise, hear the same sessions, and each must find a fault in some and none in most. And the right one
-must find a fault in the second program where a mistake that bears on the request is switched on in it.
+must find a fault in the second program where a mistake that bears on the requests is switched on in it.
 """
 
 from collections import Counter
@@ -108,6 +109,27 @@ class WatchEndsStay(Reading):
         self.begin_stay(0)
 
 
+class CountGoesOn(Reading):
+    def __init__(self):
+        self.before = 0
+        super().__init__()
+
+    def lost(self, first, last):
+        self.before += super().lost(first, last)
+        return self.before
+
+
+class CountedWhenRaised(Reading):
+    def __init__(self):
+        self.counted = 0
+        super().__init__()
+
+    def lost(self, first, last):
+        """Those raised since the last marker."""
+        since, self.counted = self.counted, len(self.raised)
+        return super().lost(since + 1, self.counted)
+
+
 WRONG = {
     **{f'a run goes on after {cause}': partial(Unbroken, cause) for cause in BREAKS},
     'an equal frequency on demand breaks a run': EqualBreaks,
@@ -121,6 +143,8 @@ WRONG = {
     'L is n at every level': LevelsAlike,
     'a change with no PHASE ends no stay': ChangeEndsNoStay,
     'a watch ends a stay': WatchEndsStay,
+    'a marker leaves its count of LONG to the next': CountGoesOn,
+    'LONG counts when it is raised': CountedWhenRaised,
 }
 
 

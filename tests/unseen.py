@@ -4,7 +4,7 @@ A Reading hears each frame of a session with the answer that a program gave to i
 model's, and none of the probe's. It keeps the units of the run, the plan and the need in force and the orders of each
 stay at one sampling level, and says where an answer is not what the documents say of that history. The model and the
 second program are stations; this is what the sentence of request W13 says of one, so it draws no place and works out no
-order.
+order. It keeps the events raised too, and no queue: what request W4 says of a marker is read off them.
 """
 
 from collections import Counter, namedtuple
@@ -41,6 +41,7 @@ GOALS = (
     'stay ended by a change, no PHASE', 'stay ended by a change and PHASE',
     '2L - 2 pass between two inspected, L = 2', '2L - 2 pass between two inspected, L above 2', '2L - 1 pass over a change',
     'left screening: told', 'left screening: in a gap', 'PHASE 1 that left no screening: told',
+    'no LONG in a gap', 'LONG in a gap', 'several LONG in a gap',
     'find refused in sampling', 'find refused, none left to recall',
 )
 
@@ -390,9 +391,19 @@ class Reading:
         self.hold(number <= last <= len(self.raised), f'events {number:,} to {last:,} are told, and {len(self.raised):,} were raised')
         self.told = last
         if kind == MARKER:
-            self.reach(*('left screening: in a gap' for hidden in self.left if number <= hidden <= last))
+            self.marker(number, last, unit)
         elif self.fault is None:
             self.entry(number, Entry(kind, unit, value))
+
+    def marker(self, first, last, lost):
+        due = self.lost(first, last)
+        self.hold(lost == due, f'the marker of events {first:,} to {last:,} has {lost:,} LONG, and {due:,} are due')
+        self.reach(('no LONG in a gap', 'LONG in a gap', 'several LONG in a gap')[min(due, 2)])
+        self.reach(*('left screening: in a gap' for hidden in self.left if first <= hidden <= last))
+
+    def lost(self, first, last):
+        """W4: the number of LONG events in the history under the numbers that a marker names."""
+        return sum(event.kind == LONG for event in self.raised[first - 1:last])
 
     def entry(self, number, told):
         """The phases are told as they were, DEFECT's included; of other events the kind alone is this reading's matter."""
