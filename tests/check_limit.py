@@ -69,7 +69,7 @@ def no_more():
 
 
 def the_journal(events):
-    """One marker for all that did not stay, silences, the last events, and nothing more."""
+    """One marker for all that did not stay, no LONG among them, silences, the last events, and nothing more."""
     first_held = events[-1][2] - PROGRAM_ROOM + 1
     yield words(7), (0, MARKER, 1, 0, first_held - 1)
     for number in range(first_held, events[0][2]):

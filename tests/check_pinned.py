@@ -205,7 +205,7 @@ def second_says(report, sessions):
 def held_to_edges(report):
     """The table has each record of the probe's edges, with what the model says of it, and no other."""
     text = read(report, 'Records.antt', 'records-hold : allSeen records ≡ allDue records')
-    rows = dict(re.findall(r'(?<!\()\b((?:waits(?: \d+){6} \()?(?:screening|sampling)(?: \d+)+\)?) ▸ (passes|unsound)', text))
+    rows = dict(re.findall(r'(?<!\()\b((?:(?:waits(?: \d+){6}|loses \d+) \()?(?:screening|sampling)(?: \d+)+\)?) ▸ (passes|unsound)', text))
     due = {record_row(station): 'passes' if model.sound(station) else 'unsound' for _, *pair in edges.edges() for station in pair}
     for row, said in due.items():
         report.check(rows.get(row) == said, f'{row}: {rows.get(row, "nothing")} in the proof, and {said} by the model')
@@ -214,8 +214,8 @@ def held_to_edges(report):
 
 
 def record_row(station):
-    """A record by its numbers, as the table has it, with the plan that waits, if any, before it; room, generator and the flag
-    heard are the same in all of them."""
+    """A record by its numbers, as the table has it; before it the plan that waits, or how many LONG events its gap has lost,
+    where there are any; room, generator and the flag heard are the same in all of them."""
     phases = {
         model.SCREENING: ('screening', model.SCREENING_FIELDS),
         model.SAMPLING: ('sampling', model.SAMPLING_FIELDS),
@@ -224,7 +224,9 @@ def record_row(station):
     tallies, numbers = ('conforming', 'defective', 'passed', 'missed', 'owed', 'last'), ('silent', 'told', 'oldest', 'next')
     row = spaced(name, *(getattr(station, field) for field in (*model.PLAN_FIELDS, *tallies, *fields, *numbers)))
     waiting = model.waiting_plan(station)
-    return row if waiting == model.NO_PLAN else f'{spaced("waits", *waiting)} ({row})'
+    if waiting != model.NO_PLAN:
+        return f'{spaced("waits", *waiting)} ({row})'
+    return f'{spaced("loses", station.lost)} ({row})' if station.lost else row
 
 
 def spaced(name, *numbers):

@@ -9,7 +9,7 @@ import model
 import probes
 import programs
 from edges import between_blocks, clauses, edges
-from model import FIELDS, WAITING_FIELDS
+from model import FIELDS, WAITING_FIELDS, Station
 from parallel import in_parallel
 from probes import CALLS, CHECKS, MOST_WORDS, Probes
 from reached import CHANGES, CHANGES_REFUSED
@@ -17,8 +17,8 @@ from report import SHOWN, cut, save
 
 BATCH_BYTES = 8_000_000
 KINDS = {
-    'sound': 2_000, 'willing': 3_000, 'changes': 2_000, 'waiters': 1_000, 'damaged': 2_000, 'begun': 500, 'recalls': 500,
-    'chance': 500, 'opens': 500, 'stacked': 3_000, 'other_rooms': 250, 'rooms': 1,
+    'sound': 2_000, 'willing': 3_000, 'drops': 2_000, 'changes': 2_000, 'waiters': 1_000, 'damaged': 2_000, 'begun': 500,
+    'recalls': 500, 'losses': 500, 'chance': 500, 'opens': 500, 'stacked': 3_000, 'other_rooms': 250, 'rooms': 1,
 }
 NAMES = ('refusal', 'kind', 'number', 'unit', 'value', *FIELDS)
 # Any generator state and either way of hearing are sound, and another C is refused 1: damage there breaks no rule.
@@ -105,6 +105,8 @@ def answered(made, tally):
     tally.update(f'{call}: {refusal} before {other}' for other in probes.applying(made)[1:])
     if made.call != probes.OPEN and refusal in (0, 10):
         tally.update(f'{call} at {limit}' for limit in probes.limits(made.st))
+    if made.call != probes.OPEN and refusal == 0:
+        tally.update(probes.drops_seen(made, Station(answer[5:])))
     if made.call == probes.CHANGE:
         tally.update(probes.change_seen(made, refusal))
     return answer
@@ -123,8 +125,9 @@ def goals():
     sides += [f'edge {name}: 0' for name, _ in between_blocks()]
     limits = [f'{CALLS[call]} at {limit}' for call, limit in turns]
     recalls = ['unrecalled below screened: 0', 'unrecalled at screened: 0', 'unrecalled above screened: 2']
-    records = [*fields, *waiters, *sides, *probes.begun_goals(), *recalls]
-    return [*numbers, *by_call, *orders(), *records, *limits, *CHANGES, *CHANGES_REFUSED]
+    losses = ['lost below the gap: 0', 'lost at the gap: 0', 'lost above the gap: 2']
+    records = [*fields, *waiters, *sides, *probes.begun_goals(), *recalls, *losses]
+    return [*numbers, *by_call, *orders(), *records, *limits, *CHANGES, *CHANGES_REFUSED, *probes.DROPS]
 
 
 def orders():
@@ -139,7 +142,7 @@ def covered(tally):
     seen = sum(tally[order] > 0 for order in orders())
     return ''.join((
         f'{tally["calls"]:,} calls, memories of every length to {MOST_WORDS:,} words, each field damaged, ',
-        f'{len(list(clauses()))} edges of a sound record, {len(CHANGES)} kinds of change',
+        f'{len(list(clauses()))} edges of a sound record, {len(CHANGES)} kinds of change, {len(probes.DROPS)} of a drop or of none',
         *(f'\n    {name}: done {tally[name + ": 0"]:,}, refused {refusals(tally, call)}' for call, name in CALLS.items()),
         f'\n    {seen} of {len(orders())} orders of two checks that both apply, calls at each of {len(probes.LIMITS)} limits',
     ))

@@ -48,7 +48,7 @@ def clauses():
     """Clause, the record that both are changed from, types of plan, phase, the sound change, and the one that is not."""
     for start, parts in (
         (plain, (plan_clauses, tally_clauses, screening_clauses, sampling_clauses, beginning_clauses, number_clauses)),
-        (plain, (no_waiting_clauses,)),
+        (plain, (lost_clauses, no_waiting_clauses)),
         (with_waiting, (waiting_clauses, waiting_range_clauses)),
     ):
         for part in parts:
@@ -159,6 +159,21 @@ def number_clauses():
     yield 'held to C', ALL, SAMPLING, dict(told=12, oldest=12), dict(told=11, oldest=11)
     yield 'a gap in a full queue alone', ALL, SAMPLING, dict(told=11, oldest=12), dict(told=12, oldest=13)
     yield 'silent to next less 2', ALL, SAMPLING, dict(silent=18), dict(silent=19)
+
+
+def lost_clauses():
+    """As many LONG events as the gap is long, in either phase and whatever C is, and none where there is no gap."""
+    def most(count, **numbers):
+        return dict(numbers, lost=count), dict(numbers, lost=count + 1)
+
+    for phase in (SCREENING, SAMPLING):
+        where = PHASES[phase]
+        yield f'lost 0 with no gap in {where}', ALL, phase, *most(0)
+        yield f'lost 0 with no gap in {where}, queue full', [CSP_1], phase, *most(0, told=12, oldest=12)
+        yield f'lost to a gap of one in {where}', [CSP_1], phase, *most(1, told=11, oldest=12)
+        yield f'lost to a gap of three in {where}', ALL, phase, *most(3, told=9, oldest=12)
+        yield f'lost to a gap above C in {where}', [CSP_1], phase, *most(11, told=1, oldest=12)
+    yield 'lost to the longest gap', [CSP_1], SAMPLING, *most(EVENT_LIMIT - 8, told=1, oldest=EVENT_LIMIT - 7, next=EVENT_LIMIT + 1)
 
 
 def no_waiting_clauses():

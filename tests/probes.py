@@ -1,11 +1,14 @@
 """Requests for the probe: one call on one record and one memory, as words. Each comes with the name of what it tries."""
 
 import struct
+from itertools import product
 
 import model
-from model import EVENT_LIMIT, LEAST_ROOM, MOST_ROOM, SAMPLING, SCREENING, WAITING_FIELDS, WORD, Station
+from model import (
+    EVENT_LIMIT, LEAST_ROOM, LONG, MOST_EVENTS_OF_A_CALL, MOST_ROOM, SAMPLING, SCREENING, WAITING_FIELDS, WORD, Station,
+)
 from reached import PLANS, change_as, change_refused_as
-from records import Records
+from records import NEAR_LONG, Records
 
 OPEN, UNIT, RESULT, INTERRUPT, FIND, TICK, TAKE, CHANGE = range(1, 9)
 CALLS = {
@@ -103,6 +106,15 @@ class Probes(Records):
                 self.last_numbers(made.st)
             yield made
 
+    def drops(self, count):
+        """Calls that raise events into a full queue; the oldest entries are LONG, under their own numbers or others, or nearly so."""
+        for made in self.willing(count):
+            made.about = 'a full queue'
+            self.full(made.st)
+            for number in range(made.st.oldest, made.st.oldest + MOST_EVENTS_OF_A_CALL):
+                made.queue[model.slot(made.st, number)] = self.head(self.random.choice((number, self.random.getrandbits(24))))
+            yield made
+
     def edges(self, clauses):
         """Every call on the records to both sides of each edge of "A sound record"."""
         for clause, *both in clauses:
@@ -151,6 +163,13 @@ class Probes(Records):
             room = self.random.choice(SMALL_ROOMS)
             st = self.left_to_recall(room)
             yield self.request(recalls_as(st), self.any_call(), st, self.memory(room))
+
+    def losses(self, count):
+        """Records whose gap has lost about as many LONG events as it is long."""
+        for _ in range(count):
+            room = self.random.choice(SMALL_ROOMS)
+            st = self.about_the_gap(room)
+            yield self.request(loses_as(st), self.any_call(), st, self.memory(room))
 
     def chance(self, count):
         """Records of chance words, mostly with a memory that fits."""
@@ -294,6 +313,12 @@ def recalls_as(st):
     return f'unrecalled {"below" if above < 0 else "above" if above else "at"} screened'
 
 
+def loses_as(st):
+    """The name of such a record."""
+    above = st.lost - (st.oldest - st.told)
+    return f'lost {"below" if above < 0 else "above" if above else "at"} the gap'
+
+
 def damaged_as(st, field):
     """A word of a waiting plan is one thing, and a word where no plan waits another."""
     none_waits = field in WAITING_FIELDS and model.waiting_plan(st) == model.NO_PLAN
@@ -306,12 +331,54 @@ def change_seen(made, refusal):
     return change_as(made.st, plan, demand) if refusal == 0 else change_refused_as(made.st, plan, refusal)
 
 
+# ---- What a call drops, by what the memory has
+
+IN_GAP = ('no gap', 'none of a gap lost', 'some of a gap lost', 'all of a gap lost')
+DROPS = (
+    *(f'dropped {", ".join(kinds)}' for drops in range(1, MOST_EVENTS_OF_A_CALL + 1) for kinds in product(('LONG', 'another'), repeat=drops)),
+    *(f'{what} dropped, {gap}' for what in ('LONG', 'no LONG') for gap in IN_GAP),
+    *(f'dropped kind {kind:02X}' for kind in NEAR_LONG),
+    'dropped LONG under its own number', 'dropped LONG under another number', 'dropped another with LONG in the words beside it',
+    *(f'nothing dropped, {gap}' for gap in IN_GAP), *(f'marker, {gap}' for gap in IN_GAP[1:]),
+)
+
+
+def drops_seen(made, after):
+    """What an accepted call did, by the memory and the numbers it found and the record it left."""
+    st, gap = made.st, gap_as(made.st)
+    if after.next == st.next:
+        return [f'marker, {gap}' if made.call == TAKE and st.told < st.oldest else f'nothing dropped, {gap}']
+    gone = [made.queue[at:at + 3] for at in (model.slot(st, number) for number in range(st.oldest, after.oldest))]
+    kinds = [head >> 24 for head, *_ in gone]
+    if not gone:
+        return []
+    seen = [f'dropped {", ".join("LONG" if kind == LONG else "another" for kind in kinds)}']
+    seen += [f'{"LONG" if LONG in kinds else "no LONG"} dropped, {gap}']
+    for number, (head, *beside) in enumerate(gone, st.oldest):
+        seen += dropped_as(number, head, beside)
+    return seen
+
+
+def gap_as(st):
+    length = st.oldest - st.told
+    return IN_GAP[0 if length == 0 else 1 if st.lost == 0 else 2 if st.lost < length else 3]
+
+
+def dropped_as(number, head, beside):
+    if head >> 24 == LONG:
+        yield f'dropped LONG under {"its own" if head & 0xFFFFFF == number else "another"} number'
+        return
+    yield f'dropped kind {head >> 24:02X}'
+    if LONG in (word >> 24 for word in beside):
+        yield 'dropped another with LONG in the words beside it'
+
+
 LIMITS = (
     *(f'next {number:,}' for number in range(EVENT_LIMIT - 3, EVENT_LIMIT + 2)),
     'last at its limit', 'run one short of need', 'need x', 'screened one short of S', 'screened at S', 'screened above S',
     'one left to recall', 'unrecalled at screened', 'unrecalled at conforming', 'S between unrecalled and screened',
     'row one short of i', 'row at i', 'watch one short of i', 'level 2', 'a level begins',
-    'queue empty', 'queue full', 'queue one short of full', 'gap', 'silent at its most',
+    'queue empty', 'queue full', 'queue one short of full', 'gap', 'lost 0 in a gap', 'lost at its most', 'silent at its most',
     'a plan waiting in screening', 'a plan waiting in sampling', 'a plan waiting one step off',
     'a plan waiting, run one short of need', 'a plan waiting, row at i', 'a plan waiting, level 2', 'a plan waiting, watch on',
 )
@@ -343,6 +410,8 @@ def limits(st):
         'queue full': held == st.C,
         'queue one short of full': held == st.C - 1,
         'gap': st.told < st.oldest,
+        'lost 0 in a gap': st.told < st.oldest and st.lost == 0,
+        'lost at its most': st.lost == st.oldest - st.told > 0,
         'silent at its most': st.silent == st.next - 2,
         'a plan waiting in screening': waiting and screening,
         'a plan waiting in sampling': waiting and sampling,

@@ -5,10 +5,12 @@ import random
 import model
 from drive import Driver
 from model import (
-    CSP_2, CSP_F, CSP_T, CSP_V, EVENT_LIMIT, FIELDS, FLAGS, SAMPLING_FIELDS, SCREENING_FIELDS, UNIT_LIMIT,
+    CSP_2, CSP_F, CSP_T, CSP_V, EVENT_LIMIT, FIELDS, FLAGS, LONG, SAMPLING_FIELDS, SCREENING_FIELDS, UNIT_LIMIT,
     WAITING_FIELDS, WORD, Station,
 )
 
+# Kinds that are not LONG's: those with one bit of its byte turned over, the one above it, and others with a 3 in them.
+NEAR_LONG = (*(LONG ^ 1 << bit for bit in range(8)), 4, 0x30, 0x33, 0)
 EXTREMES = (0, 1, 2, 2 ** 31, WORD - 1, UNIT_LIMIT, UNIT_LIMIT + 1, EVENT_LIMIT + 1, EVENT_LIMIT + 2, 10_000, 100_001)
 
 
@@ -25,8 +27,13 @@ class Records:
         return self.random.choice((self.random.getrandbits(32), self.random.choice(EXTREMES)))
 
     def memory(self, room):
-        """Words that another may have written: take hands them back as they are."""
-        return [self.random.getrandbits(32) for _ in range(3 * room)]
+        """Words that another may have written: take hands them back as they are. Many look like the first of a LONG."""
+        number = self.random.getrandbits
+        return [self.random.choice((number(32), self.head(number(24)))) for _ in range(3 * room)]
+
+    def head(self, number):
+        """An entry's first word, of LONG's kind or nearly so."""
+        return self.random.choice((LONG, self.random.choice(NEAR_LONG))) * 2 ** 24 + number
 
     # ---- Records that a history reaches
 
@@ -161,10 +168,25 @@ class Records:
 
     def numbers_from(self, st, next):
         """Queues that are empty, full or nearly so, and full ones with a gap."""
-        held = min(self.random.choice((0, 1, st.C - 2, st.C - 1, st.C, st.C)), next - 1)
+        self.holding(st, next, min(self.random.choice((0, 1, st.C - 2, st.C - 1, st.C, st.C)), next - 1))
+
+    def holding(self, st, next, held):
+        """Of the numbers in a gap any number may have been LONG, all of them too."""
         st.next, st.oldest = next, next - held
         st.told = self.pick(1, st.oldest) if held == st.C else st.oldest
+        st.lost = self.pick(0, st.oldest - st.told)
         st.silent = self.pick(0, st.next - 2)
+
+    def full(self, st):
+        """A full queue, with a gap or with none, and numbers enough for any call."""
+        self.holding(st, self.pick(st.C + 1, EVENT_LIMIT - 2), st.C)
+
+    def about_the_gap(self, room):
+        """As many LONG events lost as there are numbers in the gap, one less, or one more, which is not sound."""
+        st = self.made_up(room)
+        self.full(st)
+        st.lost = max(0, st.oldest - st.told + self.random.choice((-1, 0, 1)))
+        return st
 
     # ---- Records that break a rule, or may
 
