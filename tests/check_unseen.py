@@ -23,8 +23,8 @@ ANSWER = 5
 FRAMES = 'frames'
 # Each wrong reading must find no fault in at least this share of all stored sessions.
 AGREED = 0.5
-# The second program's mistakes in a run, in a need, in a stay, or in what ends sampling.
-MISTAKES = (2, 3, 5, 8, 12, 16)
+# The second program's mistakes in a run, in a need, in a stay, in what ends sampling, or in what a marker has lost.
+MISTAKES = (2, 3, 5, 8, 12, 16, 20, 21, 22, 23)
 # The request's own numbers: the unit with which a stored session leaves screening, and the orders of its last units.
 LEFT_WITH = {
     'left-after-266-units': 266, 'unit-200-missed': 466, 'two-pass-in-a-row': 2, 'five-pass-over-a-change': 2, 'what-breaks-a-run': 9,
