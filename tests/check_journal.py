@@ -3,18 +3,24 @@
 import random
 import subprocess
 import sys
+from collections import Counter
+from itertools import combinations
 
 import model
 from check_stored import FOLDER
 from drive import Driver
-from model import CHECK, DEFECT, INTERRUPT, LONG, MARKER, MISSED, PHASE, PLAN, SCREENING, SILENCE, START, written
+from model import (
+    CHECK, CSP_1, CSP_2, CSP_T, CSP_V, DEFECT, INTERRUPT, LONG, MARKER, MISSED, PHASE, PLAN, SCREENING, SILENCE, START, written,
+)
 from programs import ROOT
+from script import Script
 
 sys.path.insert(0, str(ROOT / 'bin'))
 
 from lib.frequency import OPENED
 from lib.journal import Journal
 from lib.words import answer as read_answer
+from lib.words import entry as in_words
 
 EXAMPLE = '''\
      line  event         number       unit  what it says
@@ -33,12 +39,13 @@ EXAMPLE = '''\
        13  PHASE              4          6  screening
        14  accepted
 Events 1 to 4: all accounted for; this file cannot tell what came after 4.
+Alarms up to event 4: 0 LONG told, 0 raised; no alarm was lost.
 '''
 EVERY_KIND = '''\
      line  event         number       unit  what it says
         1  START              1             clearance number 14
-        2  GAP                2             1 event dropped: 2
-        3  GAP                3             7 events dropped: 3 to 9
+        2  GAP                2             1 event dropped: 2, no LONG
+        3  GAP                3             7 events dropped: 3 to 9, of them 2 LONG
         4  PHASE             10      1,234  sampling level 2
         5  DEFECT            11      1,235  in sampling
         6  PHASE             12      1,235  screening
@@ -54,9 +61,11 @@ Frequency in force
   1 to 1,254  not told
   from unit 1,255 on: one in 7, unless an event after 20 says otherwise
 Events 1 to 20: all accounted for; only named by a marker: 2 to 9; this file cannot tell what came after 20.
+Alarms up to event 20: 1 LONG told, 2 dropped, 3 raised.
+ALARM LOST: 2 LONG were dropped, and no entry tells them: 2 among 3 to 9.
 '''
 KINDS = [
-    (0, 1, 1, 0, 14), (0, 9, 2, 0, 1), (0, 9, 3, 0, 7), (0, 2, 10, 1_234, 3), (0, 4, 11, 1_235, 1), (0, 2, 12, 1_235, 0),
+    (0, 1, 1, 0, 14), (0, 9, 2, 0, 1), (0, 9, 3, 2, 7), (0, 2, 10, 1_234, 3), (0, 4, 11, 1_235, 1), (0, 2, 12, 1_235, 0),
     (0, 4, 13, 1_236, 0), (0, 4, 14, 1_250, 0), (0, 3, 15, 1_250, 15), (0, 5, 16, 1_251, 3), (0, 6, 17, 1_254, 1),
     (0, 7, 18, 1_254, 0), (10, 0, 0, 0, 0), (11, 0, 0, 0, 0), (0, 8, 19, 1_254, 0), (0, 10, 20, 1_254, 7),
 ]
@@ -66,6 +75,67 @@ REFUSED = '''\
         2  refused                          11: no such change: another type, CSP-F, or i does not go with n
 No event is told; this file cannot tell what was raised.
 '''
+# Events and markers of three journals: document 01's case 9; one that lost alarms; the same with a line torn out of it.
+CASE_9 = '''\
+     line  event         number       unit  what it says
+       12  GAP                1             3 events dropped: 1 to 3, no LONG among them
+       13  SILENCE            4             3 ticks in a row with no unit
+       14  SILENCE            5             4 ticks in a row with no unit
+       15  SILENCE            6             5 ticks in a row with no unit
+       16  SILENCE            7             6 ticks in a row with no unit
+       17  SILENCE            8             7 ticks in a row with no unit
+       18  SILENCE            9             8 ticks in a row with no unit
+       19  SILENCE           10             9 ticks in a row with no unit
+       20  SILENCE           11             10 ticks in a row with no unit
+Events 1 to 11: all accounted for; only named by a marker: 1 to 3; this file cannot tell what came after 11.
+Alarms up to event 11: 0 LONG told, 0 dropped, 0 raised; no alarm was lost.
+'''
+LOST = '''\
+     line  event         number       unit  what it says
+       18  GAP                1             7 events dropped: 1 to 7, of them 2 LONG
+       19  DEFECT             8          5  in screening
+       20  LONG               9          5  5 units screened since the sequence began
+       21  DEFECT            10          6  in screening
+       22  LONG              11          6  6 units screened since the sequence began
+       23  DEFECT            12          7  in screening
+       24  LONG              13          7  7 units screened since the sequence began
+       25  DEFECT            14          8  in screening
+       26  LONG              15          8  8 units screened since the sequence began
+       38  GAP               16             1 event dropped: 16, no LONG
+       39  SILENCE           17          8  2 ticks in a row with no unit
+       40  SILENCE           18          8  3 ticks in a row with no unit
+       41  SILENCE           19          8  4 ticks in a row with no unit
+       42  SILENCE           20          8  5 ticks in a row with no unit
+       43  SILENCE           21          8  6 ticks in a row with no unit
+       44  SILENCE           22          8  7 ticks in a row with no unit
+       45  SILENCE           23          8  8 ticks in a row with no unit
+       46  SILENCE           24          8  9 ticks in a row with no unit
+       50  DEFECT            25          9  in screening
+       60  GAP               26             1 event dropped: 26, a LONG
+       61  SILENCE           27          9  1 tick in a row with no unit
+       62  SILENCE           28          9  2 ticks in a row with no unit
+       63  SILENCE           29          9  3 ticks in a row with no unit
+       64  SILENCE           30          9  4 ticks in a row with no unit
+       65  SILENCE           31          9  5 ticks in a row with no unit
+       66  SILENCE           32          9  6 ticks in a row with no unit
+       67  SILENCE           33          9  7 ticks in a row with no unit
+       68  SILENCE           34          9  8 ticks in a row with no unit
+Events 1 to 34: all accounted for; only named by a marker: 1 to 7, 16, 26; this file cannot tell what came after 34.
+Alarms up to event 34: 4 LONG told, 3 dropped, 7 raised.
+ALARM LOST: 3 LONG were dropped, and no entry tells them: 2 among 1 to 7, event 26.
+'''
+TORN = '''\
+Events 1 to 34: missing: 15; only named by a marker: 1 to 7, 16, 26; this file cannot tell what came after 34.
+Alarms up to event 34: 3 LONG told, 3 dropped; whether another was lost is not told: event 15 is missing.
+ALARM LOST: 3 LONG were dropped, and no entry tells them: 2 among 1 to 7, event 26.
+'''
+# The words of markers by their number, unit and value, also of such as no station writes.
+MARKERS = {
+    (1, 0, 3): '3 events dropped: 1 to 3, no LONG among them', (1, 2, 5): '5 events dropped: 1 to 5, of them 2 LONG',
+    (5, 0, 1): '1 event dropped: 5, no LONG', (5, 1, 1): '1 event dropped: 5, a LONG', (5, 2, 1): '1 event dropped: 5, of them 2 LONG',
+    (1_000, 1, 2): '2 events dropped: 1,000 to 1,001, of them 1 LONG', (7, 0, 0): 'value 0', (7, 4, 0): 'value 0, unit 4',
+    (1, 2 ** 32 - 1, 9_000): '9,000 events dropped: 1 to 9,000, of them 4,294,967,295 LONG',
+}
 # Plans that change: at once and on demand in screening, at once in sampling, at a jump, behind a marker.
 FREQUENCIES = '''\
      line  event         number       unit  what it says
@@ -77,7 +147,7 @@ FREQUENCIES = '''\
         6  PHASE              6        491  screening
         7  PLAN               7        491  a new plan takes force: one in 9
         8  SILENCE            8        500  1 tick in a row with no unit
-        9  GAP                9             2 events dropped: 9 to 10
+        9  GAP                9             2 events dropped: 9 to 10, no LONG among them
        10  SILENCE           11        560  1 tick in a row with no unit
        11  PLAN              12        600  a new plan takes force: one in 4
        12  SILENCE           13        700  1 tick in a row with no unit
@@ -92,11 +162,13 @@ Frequency in force
   [abbbbbbbbbcccccccccccccdd?????????????????????????cccccccccccccccccccccccccc]
   one sign for 4 units: a one in 3, b one in 5, c one in 4, d one in 9, ? not told
 Events 1 to 13: all accounted for; only named by a marker: 9 to 10; this file cannot tell what came after 13.
+Alarms up to event 13: 0 LONG told, 0 dropped, 0 raised; no alarm was lost.
 '''
 CHANGING = (
     (START, 0, 3), (PLAN, 2, 5), (PHASE, 8, 1), (PLAN, 40, 4), (MISSED, 91, 400), (PHASE, 491, 0), (PLAN, 491, 9),
     (SILENCE, 500, 1), (MARKER, 0, 2), (SILENCE, 560, 1), (PLAN, 600, 4), (SILENCE, 700, 1),
 )
+TAKE = b'07'
 DAMAGED = [
     b'\n', b'00 00 00000000 00000000 0000000\n', b'00 00 00000000 00000000 000000000\n', b'00 00 00000000  00000000 00000000\n',
     b'00 00 0000000a 00000000 00000000\n', b'00 00 00000000 00000000 00000000\r\n', b' 00 00 00000000 00000000 00000000\n',
@@ -104,7 +176,7 @@ DAMAGED = [
 ]
 # Answer lines that no program writes, whatever came before.
 OUT_OF_PLACE = [
-    (0, 11, 2, 0, 0), (0, 2, 2, 1, 4), (0, 4, 2, 1, 2), (0, 1, 0, 0, 1), (0, 6, 8_000_001, 0, 1), (0, 9, 2, 1, 1),
+    (0, 11, 2, 0, 0), (0, 2, 2, 1, 4), (0, 4, 2, 1, 2), (0, 1, 0, 0, 1), (0, 6, 8_000_001, 0, 1), (0, 9, 2, 2, 1),
     (0, 9, 2, 0, 0), (0, 9, 2, 0, 2 ** 32 - 1), (0, 9, 2, 0, 7_999_992), (0, 5, 2, 1, 0), (0, 5, 2, 1_000_000, 1),
     (0, 5, 2, 0, 1), (0, 6, 2, 0, 0), (0, 7, 2, 0, 0), (0, 7, 2, 1, 1), (0, 8, 2, 0, 1), (0, 2, 2, 0, 1), (0, 4, 2, 0, 0),
     (0, 6, 2, 1_000_001, 1), (0, 1, 2, 0, 2), (12, 0, 0, 0, 0), (4, 0, 0, 0, 1), (4, 1, 1, 0, 1), (0, 0, 1, 0, 0),
@@ -116,6 +188,7 @@ OPEN = (START, 0, 5)
 SAMPLING = (OPEN, (PHASE, 5, 1))
 LEFT = (*SAMPLING, (PHASE, 14, 2))
 HIDDEN = ((MARKER, 0, 8),)
+AT_ONCE = ((START, 0, 1), (SILENCE, 1, 1))  # the result of unit 1 is owed, and S may be 1
 TOLD_BY_LONG = (*HIDDEN, (DEFECT, 20, 0), (LONG, 20, 3))  # the sequence began after unit 17
 SPENT = ((MARKER, 0, 7_999_992), *((SILENCE, 1, count) for count in range(1, 6)), (INTERRUPT, 1, 0))  # the next is 7,999,999
 HISTORIES = {
@@ -251,6 +324,43 @@ HISTORIES = {
         (SPENT, (PLAN, 1, 4), (SILENCE, 1, 6), 'no SILENCE has a number above 7,999,998'),
     'PHASE with the last number':
         ((*SPENT, (PHASE, 1, 0)), (PLAN, 1, 4), (PHASE, 1, 0), 'no PHASE has a number above 7,999,999'),
+    'more LONG than events': ((OPEN,), (MARKER, 1, 2), (MARKER, 3, 2), 'it counts 3 LONG among 2 events'),
+    'more LONG than the one event': ((OPEN, (DEFECT, 5, 0)), (MARKER, 1, 1), (MARKER, 2, 1), 'it counts 2 LONG among 1 event'),
+    'a count that is no count': ((OPEN,), (MARKER, 0, 8), (MARKER, 2 ** 32 - 1, 8), '4,294,967,295 LONG among 8 events'),
+    'LONG in the place of START': ((), (MARKER, 0, 1), (MARKER, 1, 1), 'event 1 is START, and a LONG stands right behind its DEFECT'),
+    'LONG in the place of a first DEFECT': ((), (MARKER, 1, 3), (MARKER, 1, 2), 'event 1 is START, and'),
+    'two LONG where START and four events were dropped': ((), (MARKER, 2, 5), (MARKER, 2, 4), 'at most 1 of these'),
+    'LONG right behind START': ((OPEN,), (MARKER, 0, 1), (MARKER, 1, 1), 'none of these can be LONG'),
+    'neighbours that are LONG': ((OPEN, (SILENCE, 4, 1)), (MARKER, 1, 3), (MARKER, 2, 3), 'at most 1 of these can be LONG'),
+    'neighbours that are LONG behind a DEFECT': ((OPEN, (DEFECT, 5, 0)), (MARKER, 2, 3), (MARKER, 2, 2), 'at most 1 of these'),
+    'neighbours that are LONG behind a marker': (HIDDEN, (MARKER, 2, 3), (MARKER, 2, 2), 'at most 1 of these'),
+    'LONG behind a marker that names START alone': (((MARKER, 0, 1),), (MARKER, 1, 2), (MARKER, 1, 1), 'none of these'),
+    'LONG of a marker behind one that ends in LONG':
+        ((OPEN, (DEFECT, 5, 0), (MARKER, 1, 1)), (MARKER, 1, 2), (MARKER, 1, 1), 'none of these'),
+    'LONG behind a marker that ends in LONG':
+        ((OPEN, (MARKER, 1, 2)), (DEFECT, 6, 0), (LONG, 6, 6), 'the last event that the marker names cannot be its cause'),
+    'LONG behind a marker that names a PHASE alone':
+        ((*SAMPLING, (INTERRUPT, 9, 0), (MARKER, 0, 1)), (SILENCE, 9, 1), (LONG, 9, 9), 'cannot be its cause'),
+    'LONG behind a defective sample': ((*SAMPLING, (DEFECT, 9, 1)), (MARKER, 0, 1), (MARKER, 1, 1), 'none of these'),
+    'LONG where PHASE is due': ((*SAMPLING, (MISSED, 7, 2)), (MARKER, 1, 3), (MARKER, 1, 2), 'none of these'),
+    'LONG where PLAN is due': ((*SAMPLING, (PHASE, 9, 0)), (MARKER, 1, 3), (MARKER, 1, 2), 'none of these'),
+    'LONG that is due and not among the dropped':
+        ((OPEN, (DEFECT, 5, 0), (LONG, 5, 5), (DEFECT, 6, 0)), (MARKER, 1, 8), (MARKER, 0, 8), 'calls for LONG next, and it counts'),
+    'LONG that is due and not the one event dropped':
+        ((OPEN, (DEFECT, 5, 0), (LONG, 5, 5), (DEFECT, 6, 0)), (MARKER, 1, 1), (MARKER, 0, 1), 'calls for LONG next, and it counts'),
+    'LONG dropped before any unit':
+        (((MARKER, 1, 3),), (SILENCE, 1, 1), (SILENCE, 0, 1), 'unit 1 came before, since each LONG that the marker counts has a unit'),
+    'two LONG dropped with one unit':
+        ((*AT_ONCE, (MARKER, 2, 4)), (INTERRUPT, 2, 0), (INTERRUPT, 1, 0), 'unit 2 came before, since each LONG'),
+    'LONG dropped in two markers with one unit':
+        ((*AT_ONCE, (MARKER, 1, 2), (MARKER, 1, 2)), (INTERRUPT, 2, 0), (INTERRUPT, 1, 0), 'unit 2 came before'),
+    'LONG dropped behind its DEFECT, and another with no unit':
+        ((OPEN, (DEFECT, 5, 0), (MARKER, 2, 3)), (SILENCE, 6, 1), (SILENCE, 5, 1), 'unit 6 came before, since each LONG'),
+    'a result of the unit whose LONG was dropped':
+        ((*AT_ONCE, (MARKER, 1, 2)), (DEFECT, 2, 0), (DEFECT, 1, 0), 'unit 1 was given before, since each LONG'),
+    'missed units before one whose LONG was dropped':
+        ((*AT_ONCE, (MARKER, 2, 4)), (MISSED, 3, 1), (MISSED, 2, 1), 'unit 2 came before'),
+    'more LONG than units': ((), (MARKER, 1_000_000, 3_000_000), (MARKER, 1_000_001, 3_000_000), 'unit numbers end at 1,000,000'),
 }
 # The same where the n that was opened is known, which is 3.
 OPENED_WITH = 3
@@ -276,12 +386,21 @@ KNOWN = {
     'a level too soon': (SAMPLING, (PHASE, 18, 2), (PHASE, 17, 2), '5 good samples after unit 5 take at least 13 units'),
     'a level too late': (SAMPLING, (PHASE, 20, 2), (PHASE, 21, 2), '5 good samples after unit 5 take at most 15 units'),
 }
-# What a marker may hide is possible again: the entry that no station could write, behind a marker.
+# The same where no change of plan was taken, as a session's calls tell: what S is known to be is not forgotten.
+UNCHANGED = {
+    'LONG sooner than where a marker tells that a defect had none':
+        ((OPEN, (DEFECT, 4, 0), (DEFECT, 9, 0), (MARKER, 0, 1), (INTERRUPT, 9, 0), (DEFECT, 13, 0), (DEFECT, 17, 0)),
+         (DEFECT, 19, 0), (LONG, 17, 8), 'a defect at 9 units screened raised none'),
+}
+# What a marker may hide is possible again: the entry that no station could write, behind a marker of eight events. Where
+# LONG is due the marker counts it.
+WITH_LONG_DUE = (
+    'LONG once and then none', 'LONG once, a check find, and then none', 'LONG, a check find, and then none, behind a marker',
+)
 MADE_POSSIBLE = (
     'a step of two levels', 'screening out of screening', 'LONG with no DEFECT', 'a silence that starts at two',
     'CHECK in sampling', 'two PLANs alike', 'a lower frequency in sampling than the last', 'PLAN at a level with no PHASE',
-    'PLAN before the PHASE of a jump', 'LONG once and then none', 'LONG once, a check find, and then none',
-    'LONG, a check find, and then none, behind a marker', 'CHECK with nothing to recall since LONG began',
+    'PLAN before the PHASE of a jump', *WITH_LONG_DUE, 'CHECK with nothing to recall since LONG began',
     'level 0 again and no PLAN',
 )
 # What another plan makes possible: its own S and its own clearance number, told or hidden by a marker.
@@ -348,41 +467,90 @@ def check(report, pair, options):
     says(report, 'the example', (FOLDER / 'example.out').read_bytes(), EXAMPLE)
     says(report, 'every kind', lines(*KINDS), EVERY_KIND, '--events')
     says(report, 'refusals of a change', lines((10, 0, 0, 0, 0), (11, 0, 0, 0, 0)), REFUSED)
-    for name, text, closing, status in closings():
-        closes(report, name, text, closing, status)
+    for name, text, status, *closing in closings():
+        closes(report, name, text, status, ''.join(f'{line}\n' for line in closing))
+    lost_alarms(report)
     damaged(report)
     many_damaged(report)
     out_of_place(report)
     histories(report)
+    markers_heard(report)
     changes(report)
     whole_sessions(report)
     files(report)
     heard, caught, tried, over = random_journals(report, options)
     return (f'every kind, {len(DAMAGED)} damaged lines, {len(closings())} closing lines, every stored session, '
-            f'{len(HISTORIES) + len(KNOWN)} histories that no station could write, {len(TAKEN_UP)} changes of plan, '
+            f'{len(HISTORIES) + len(KNOWN) + len(UNCHANGED)} histories that no station could write, {len(TAKEN_UP)} changes of plan, '
             f'{heard:,} events of random sessions, {over:,} LONG counted over a find; '
-            f'of {tried:,} changed journals {caught:,} caught')
+            f'of {tried:,} changed journals {caught:,} caught; {random_alarms(report, options)}')
 
 
 def closings():
-    """What the last line says, and the exit status."""
+    """Files, each with the exit status and the lines behind the rows."""
+    return [*of_sound_files(), *of_unsound_files()]
+
+
+def of_sound_files():
     return [
-        ('no lines', b'', 'The file is empty: no answer and no event.', 0),
-        ('no events', lines((0, 0, 0, 0, 1)), 'No event is told; this file cannot tell what was raised.', 0),
-        ('one event', told(1), 'Event 1: all accounted for; this file cannot tell what came after 1.', 0),
-        ('a marker', lines((0, 9, 1, 0, 3)),
-         'Events 1 to 3: all accounted for; only named by a marker: 1 to 3; this file cannot tell what came after 3.', 0),
-        ('a hole', told(1, 2, 5), 'Events 1 to 5: missing: 3 to 4; this file cannot tell what came after 5.', 1),
-        ('a lost start', told(2, 3), 'Events 1 to 3: missing: 1; this file cannot tell what came after 3.', 1),
-        ('a repeated line', told(1, 2, 2, 3),
-         'Events 1 to 3: all accounted for; out of order: 2; this file cannot tell what came after 3.', 1),
-        ('a swapped pair', told(1, 3, 2, 4),
-         'Events 1 to 4: missing: 2; out of order: 2; this file cannot tell what came after 4.', 1),
-        ('a late marker', lines((0, 9, 2, 0, 3)),
-         'Events 1 to 4: missing: 1; only named by a marker: 2 to 4; this file cannot tell what came after 4.', 1),
-        ('two sessions', told(1, 2, 1, 2), 'No station could write this journal: 1 line cannot be (line 3).', 1),
-        ('many holes', told(1, *range(3, 40, 2)),
-         'Events 1 to 39: missing: 2, 4, 6, 8, 10 and 14 more; this file cannot tell what came after 39.', 1),
+        ('no lines', b'', 0, 'The file is empty: no answer and no event.'),
+        ('no events', lines((0, 0, 0, 0, 1)), 0, 'No event is told; this file cannot tell what was raised.'),
+        ('one event', told(1), 0, 'Event 1: all accounted for; this file cannot tell what came after 1.',
+         'Alarms up to event 1: 0 LONG told, 0 raised; no alarm was lost.'),
+        ('an alarm', lines(*numbered((OPEN, (DEFECT, 5, 0), (LONG, 5, 5)))), 0,
+         'Events 1 to 3: all accounted for; this file cannot tell what came after 3.',
+         'Alarms up to event 3: 1 LONG told, 1 raised; no alarm was lost.'),
+        ('a marker', lines((0, 9, 1, 0, 3)), 0,
+         'Events 1 to 3: all accounted for; only named by a marker: 1 to 3; this file cannot tell what came after 3.',
+         'Alarms up to event 3: 0 LONG told, 0 dropped, 0 raised; no alarm was lost.'),
+        ('a marker with an alarm', lines((0, 9, 1, 1, 3)), 0,
+         'Events 1 to 3: all accounted for; only named by a marker: 1 to 3; this file cannot tell what came after 3.',
+         'Alarms up to event 3: 0 LONG told, 1 dropped, 1 raised.',
+         'ALARM LOST: 1 LONG was dropped, and no entry tells it: 1 among 1 to 3.'),
+        ('markers with many alarms', lines(*((0, 9, at, at > 1, 3) for at in range(1, 25, 3))), 0,
+         'Events 1 to 24: all accounted for; only named by a marker: 1 to 24; this file cannot tell what came after 24.',
+         'Alarms up to event 24: 0 LONG told, 7 dropped, 7 raised.',
+         'ALARM LOST: 7 LONG were dropped, and no entry tells them: '
+         '1 among 4 to 6, 1 among 7 to 9, 1 among 10 to 12, 1 among 13 to 15, 1 among 16 to 18 and 2 more.'),
+    ]
+
+
+def of_unsound_files():
+    return [
+        ('a hole', told(1, 2, 5), 1, 'Events 1 to 5: missing: 3 to 4; this file cannot tell what came after 5.',
+         'Alarms up to event 5: 0 LONG told; whether one was lost is not told: events 3 to 4 are missing.'),
+        ('a lost start', told(2, 3), 1, 'Events 1 to 3: missing: 1; this file cannot tell what came after 3.',
+         'Alarms up to event 3: 0 LONG told; whether one was lost is not told: event 1 is missing.'),
+        ('a repeated line', told(1, 2, 2, 3), 1,
+         'Events 1 to 3: all accounted for; out of order: 2; this file cannot tell what came after 3.',
+         'Alarms up to event 3: 0 LONG told; whether one was lost is not told: entries are out of order.'),
+        ('a repeated alarm', lines((0, 9, 1, 0, 8), (0, 4, 9, 5, 0), *2 * [(0, 3, 10, 5, 5)]), 1,
+         'Events 1 to 10: all accounted for; out of order: 10; only named by a marker: 1 to 8; '
+         'this file cannot tell what came after 10.',
+         'Alarms up to event 10: 1 LONG told, 0 dropped; whether one was lost is not told: entries are out of order.'),
+        ('a repeated marker', lines(*2 * [(0, 9, 1, 1, 3)]), 1,
+         'Events 1 to 3: all accounted for; out of order: 1 to 3; only named by a marker: 1 to 3; '
+         'this file cannot tell what came after 3.',
+         'Alarms up to event 3: 0 LONG told, 1 dropped; whether another was lost is not told: entries are out of order.',
+         'ALARM LOST: 1 LONG was dropped, and no entry tells it: 1 among 1 to 3.'),
+        ('a swapped pair', told(1, 3, 2, 4), 1,
+         'Events 1 to 4: missing: 2; out of order: 2; this file cannot tell what came after 4.',
+         'Alarms up to event 4: 0 LONG told; whether one was lost is not told: event 2 is missing and entries are out of order.'),
+        ('a late marker', lines((0, 9, 2, 0, 3)), 1,
+         'Events 1 to 4: missing: 1; only named by a marker: 2 to 4; this file cannot tell what came after 4.',
+         'Alarms up to event 4: 0 LONG told, 0 dropped; whether one was lost is not told: event 1 is missing.'),
+        ('two sessions', told(1, 2, 1, 2), 1,
+         'Events 1 to 2: all accounted for; out of order: 1 to 2; this file cannot tell what came after 2.',
+         'Alarms up to event 2: 0 LONG told; whether one was lost is not told: '
+         'entries are out of order and no station could write this journal.',
+         'No station could write this journal: 1 line cannot be (line 3).'),
+        ('a marker that counts too many', lines((0, 9, 1, 0, 3), (0, 9, 4, 4, 3)), 1,
+         'Events 1 to 6: all accounted for; only named by a marker: 1 to 6; this file cannot tell what came after 6.',
+         'Alarms up to event 6: 0 LONG told, 0 dropped; whether one was lost is not told: no station could write this journal.',
+         'No station could write this journal: 1 line cannot be (line 2).'),
+        ('many holes', told(1, *range(3, 40, 2)), 1,
+         'Events 1 to 39: missing: 2, 4, 6, 8, 10 and 14 more; this file cannot tell what came after 39.',
+         'Alarms up to event 39: 0 LONG told; whether one was lost is not told: '
+         'events 2, 4, 6, 8, 10 and 14 more are missing.'),
     ]
 
 
@@ -405,11 +573,62 @@ def says(report, name, text, expected, *options):
     report.check(good, f'bin/journal on {name} says:\n{done.stdout.decode()}{done.stderr.decode()}')
 
 
-def closes(report, name, text, closing, status):
+def closes(report, name, text, status, closing):
     done = journal(text)
-    last = (done.stdout.decode().splitlines() or ['(nothing)'])[-1]
-    good = last == closing and done.returncode == status and not done.stderr
-    report.check(good, f'bin/journal on {name} ends with {done.returncode} and: {last}')
+    said = done.stdout.decode()
+    rows = 1 + text.count(b'\n') + said.count('           ! ')
+    good = said.endswith(closing) and said.count('\n') == rows + closing.count('\n') and done.returncode == status and not done.stderr
+    report.check(good, f'bin/journal on {name} ends with {done.returncode} and:\n{said}')
+
+
+# ---- Alarms that were lost
+
+def losing():
+    """A session that loses alarms: two with other events, and later one alone, behind its DEFECT."""
+    script = Script()
+    script.open(CSP_1, 2, 2, 3)
+    script.bad(8)
+    script.take_all()
+    script.tick(10)
+    script.take_all()
+    script.bad()
+    script.take()
+    script.tick(9)
+    script.take_all()
+    return script
+
+
+def lost_alarms(report):
+    for (number, long, count), due in MARKERS.items():
+        said = in_words(MARKER, number, long, count)
+        report.check(said == f'GAP        {number:>9,}  {"":>9}  {due}', f'bin/journal puts a marker into the words: {said}')
+    says(report, 'case 9', (FOLDER / 'case-9-ten-ticks.out').read_bytes(), CASE_9, '--events')
+    answers = losing().answers
+    says(report, 'lost alarms', lines(*answers), LOST, '--events')
+    done = journal(lines(*(answer for answer in answers if answer[:3] != (0, LONG, 15))), '--events')
+    torn = done.returncode == 1 and done.stdout.decode().endswith(f'8 ticks in a row with no unit\n{TORN}')
+    report.check(torn, f'bin/journal on lost alarms with a line torn out says:\n{done.stdout.decode()}')
+    nothing_but_alarms(report)
+
+
+def nothing_but_alarms(report):
+    """Where DEFECT and LONG come in turn, as many LONG were dropped as can be: a marker that counts one more is impossible."""
+    entries = numbered(((START, 0, 1), *(entry for unit in range(1, 7) for entry in ((DEFECT, unit, 0), (LONG, unit, unit)))))
+    for first, end in combinations(range(len(entries) + 1), 2):
+        long, which = alarms(entries[first:end]), f'{end - first} events from {first + 1} on'
+        said = faults(dropped(entries, first, end, long))
+        report.check(not said, f'bin/journal does not take a marker of {which}: {said}')
+        said = faults(dropped(entries, first, end, long + 1)).get(first + 1, '')
+        report.check('LONG' in said, f'bin/journal takes a LONG too many among {which}: {said}')
+
+
+def dropped(entries, first, end, long):
+    """The journal with one marker for the entries in these places, and so many LONG counted in it."""
+    return [*entries[:first], (0, MARKER, entries[first][2], long, end - first), *entries[end:]]
+
+
+def alarms(entries):
+    return sum(kind == LONG for _, kind, *_ in entries)
 
 
 # ---- Lines that cannot be read
@@ -461,9 +680,9 @@ def numbered(entries):
     return answers
 
 
-def heard_of(answers, n=None):
-    """The journal that answers tell, where n was opened, and what is said of each line that is not well, by its place."""
-    heard, said = Journal(), {}
+def heard_of(answers, n=None, asked=None):
+    """The journal that answers tell, where n was opened and those n were asked for; what is said of each bad line, by its place."""
+    heard, said = Journal(asked), {}
     if n is not None:
         heard.opened_with(n)
     for at, (_, *entry) in enumerate(answers, 1):
@@ -473,14 +692,14 @@ def heard_of(answers, n=None):
     return heard, said
 
 
-def faults(answers, n=None):
-    return heard_of(answers, n)[1]
+def faults(answers, *known):
+    return heard_of(answers, *known)[1]
 
 
-def one_is_possible(report, name, before, good, bad, why, n=None):
+def one_is_possible(report, name, before, good, bad, why, *known):
     """Of two entries after the same ones, a station can write the one and not the other."""
-    report.check(not faults(numbered((*before, good)), n), f'bin/journal does not take what a station can write beside: {name}')
-    said = faults(numbered((*before, bad)), n)
+    report.check(not faults(numbered((*before, good)), *known), f'bin/journal does not take what a station can write beside: {name}')
+    said = faults(numbered((*before, bad)), *known)
     report.check(list(said) == [len(before) + 1] and why in said[len(before) + 1], f'bin/journal says of {name}: {said}')
 
 
@@ -491,7 +710,7 @@ def histories(report):
         one_is_possible(report, name, *history, OPENED_WITH)
     for name in MADE_POSSIBLE:
         before, _, bad, _ = HISTORIES[name]
-        said = faults(numbered((*before, *HIDDEN, bad)))
+        said = faults(numbered((*before, (MARKER, int(name in WITH_LONG_DUE), 8), bad)))
         report.check(not said, f'bin/journal forgets that a marker may hide what makes it possible: {name}: {said}')
     for name, entries in UNDER_ANOTHER.items():
         said = faults(numbered(entries))
@@ -503,6 +722,22 @@ def histories(report):
     closed = done.stdout.endswith(b'No station could write this journal: 1 line cannot be (line 3).\n')
     said = note in done.stdout and closed and done.returncode == 1
     report.check(said, f'bin/journal on a wrong DEFECT:\n{done.stdout.decode()}')
+
+
+def markers_heard(report):
+    """What a marker's count tells of the events around it, and what it does not."""
+    for name, history in UNCHANGED.items():
+        one_is_possible(report, name, *history, None, set())
+        before, _, bad, _ = history
+        said = faults(numbered((*before, bad)))
+        report.check(not said, f'bin/journal holds to a plan that a marker may change: {name}: {said}')
+        said = faults(numbered((*(entry if entry[0] != MARKER else (MARKER, 1, 1) for entry in before), bad)), None, set())
+        report.check(not said, f'bin/journal takes a LONG that a marker counts for none: {name}: {said}')
+    for entries in (((SILENCE, 5, 1), (INTERRUPT, 4, 0)), ((DEFECT, 1, 0), (INTERRUPT, 0, 0))):
+        said = faults(numbered((*AT_ONCE, (MARKER, 1, 2), *entries)))
+        report.check(said.get(5, '').endswith(' came before'), f'bin/journal blames a marker for what an entry tells: {said}')
+    said = faults(numbered((OPEN, (SILENCE, 2 ** 32 - 1, 1), (MARKER, 0, 3))))
+    report.check(list(said) == [2], f'bin/journal blames a marker that counts no LONG: {said}')
 
 
 # ---- Plans that change
@@ -552,7 +787,7 @@ def whole_sessions(report):
         report.check(told_so == {}, f'bin/journal does not read sessions/{path.name}: {told_so}')
     longest = max(paths, key=lambda path: path.stat().st_size)
     done = journal(b'', str(longest))
-    read = done.returncode == 0 and done.stdout.count(b'\n') == longest.read_bytes().count(b'\n') + 2
+    read = done.returncode == 0 and done.stdout.count(b'\n') == longest.read_bytes().count(b'\n') + 3
     report.check(read, f'bin/journal does not read sessions/{longest.name}: {done.stderr!r}')
 
 
@@ -561,7 +796,7 @@ def random_journals(report, options):
     heard = caught = tried = known = plans = over = 0
     for at in range(max(20, options.count // 10)):
         name = f'{options.seed}-journal-{at}'
-        witness, chosen = (Diligent if at % 4 == 0 else Witness)(name), random.Random(name)
+        witness, chosen = (Diligent, Alarming, Witness, Witness)[at % 4](name), random.Random(name)
         entries = witness.whole_journal()
         heard += len(entries)
         plans += sum(kind == PLAN for _, kind, *_ in entries)
@@ -615,6 +850,15 @@ class Witness(Driver):
             pass
         return [answer for answer in self.answers if answer[1]]
 
+    def raised(self):
+        """The kind of each event: the same calls on a queue that has room for all of them."""
+        program = model.Program()
+        program.queue = [0] * (3 * model.MOST_ROOM)
+        for line in self.lines:
+            if line != TAKE:
+                program.answer(line)
+        return [program.queue[3 * at] >> 24 for at in range(program.station.next - 1)]
+
     def judge(self, stretches):
         """The stretches that have another frequency than was in force, and how many have the right one."""
         known = [(first, min(last, self.station.last), held) for first, last, held in stretches if held is not None]
@@ -642,12 +886,27 @@ class Diligent(Witness):
             self.unit()
 
 
+class Alarming(Diligent):
+    """One whose S is near its clearance number, and that takes seldom: LONG comes at most defects, and many are dropped."""
+
+    def open_somehow(self):
+        type, i = self.random.choice((CSP_1, CSP_2, CSP_T, CSP_V)), self.random.randrange(1, 5)
+        x = self.random.randrange(1, i + 1) if type == CSP_V else 0
+        self.open(type, self.random.randrange(2, 5), i, i + self.random.choice((0, 0, 1, 3)), x, 0, self.seed())
+
+    def own_journal(self):
+        """What is taken up to the end of the session, from a queue with the program's own room."""
+        self.drive()
+        self.take_all()
+        return [answer for answer in self.answers if answer[1]]
+
+
 def with_markers(entries, chosen):
     marked, at = [], 0
     while at < len(entries):
         if chosen.random() < 0.1:
             count = min(chosen.randrange(1, 9), len(entries) - at)
-            marked.append((0, MARKER, entries[at][2], 0, count))
+            marked.append((0, MARKER, entries[at][2], alarms(entries[at:at + count]), count))
             at += count
         else:
             marked.append(entries[at])
@@ -675,6 +934,58 @@ def counted_from_finds(entries):
             find = None
         elif kind == LONG and find is not None:
             yield [*entries[:at], (0, LONG, number, unit, unit - find), *entries[at + 1:]]
+
+
+# ---- Random alarms
+
+def random_alarms(report, options):
+    """The journal of a station that drops alarms is possible, and owns up to each. In words: how many wrong counts are caught."""
+    lost, tried, caught = 0, Counter(), Counter()
+    for at in range(max(20, options.count // 15)):
+        witness = Alarming(f'{options.seed}-alarms-{at}')
+        entries, raised = witness.own_journal(), witness.raised()
+        lost += owned_up(report, f'random session {at} with alarms', entries, raised)
+        for side, found in wrong_counts(entries, witness.random):
+            tried[side] += 1
+            caught[side] += found
+        place = witness.random.randrange(len(entries) - 1)
+        doubted = heard_of([*entries[:place], *entries[place + 1:]])[0].alarms_told()
+        in_doubt = 'was lost is not told' in doubted and 'raised' not in doubted
+        report.check(in_doubt, f'bin/journal on random session {at} with alarms and an entry torn out says: {doubted}')
+    report.check(lost > 0, 'no LONG was dropped in random sessions')
+    said = (f'{lost:,} LONG dropped in random sessions; of {tried["above"]:,} counts above the right one {caught["above"]:,} caught, '
+            f'of {tried["below"]:,} below it {caught["below"]:,}')
+    report.check(caught['above'] * 2 > tried['above'], said)
+    return said
+
+
+def owned_up(report, name, entries, raised):
+    """How many alarms were dropped. Each marker counts those among its events, and the sum is what was raised."""
+    heard, said = heard_of(entries)
+    report.check(not said, f'bin/journal calls {name} impossible: {said}')
+    markers = [(number, unit, value) for _, kind, number, unit, value in entries if kind == MARKER]
+    wrong = [marker for marker in markers if raised[marker[0] - 1:marker[0] - 1 + marker[2]].count(LONG) != marker[1]]
+    report.check(not wrong, f'{name} has markers that count another number of LONG than were dropped: {wrong[:2]}')
+    lost, said = sum(long for _, long, _ in markers), (heard.alarms_told(), heard.alarms.loud())
+    due = alarms_due(len(raised), raised.count(LONG) - lost, lost, markers)
+    loud = said[1].startswith(f'ALARM LOST: {lost:,} LONG ') if lost else said[1] is None
+    report.check(said[0] == due and loud, f'bin/journal on {name} says {said}, and {due} is due')
+    return lost
+
+
+def alarms_due(last, told, lost, markers):
+    """What is said of alarms where every event up to the last is told or named."""
+    parts = [f'{told:,} LONG told', *([f'{lost:,} dropped'] if markers else []), f'{told + lost:,} raised']
+    return f'up to event {last:,}: {", ".join(parts)}' + ('' if lost else '; no alarm was lost')
+
+
+def wrong_counts(entries, chosen):
+    """Each marker with another count: on which side of the right one it is, and whether it is caught."""
+    for at, (_, kind, number, long, count) in enumerate(entries):
+        if kind == MARKER:
+            other = chosen.choice([other for other in range(count + 1) if other != long])
+            changed = [*entries[:at], (0, MARKER, number, other, count), *entries[at + 1:]]
+            yield 'above' if other > long else 'below', bool(faults(changed))
 
 
 # ---- Files

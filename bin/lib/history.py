@@ -5,7 +5,8 @@ neither the plan's type nor S, and n only where it is told the plan that was ope
 the entries tell and on nothing else. Whatever a marker or a hole may hide it forgets, so that it never calls impossible
 what a station can write. A change of plan leaves much open: in screening the same PLAN may come at once, and run and
 screened go on, or on demand, and they start anew. So where they count from is one of several units. A check find starts
-run anew and leaves screened: LONG counts every unit since the sequence began, and so tells where it did.
+run anew and leaves screened: LONG counts every unit since the sequence began, and so tells where it did. A marker
+counts the LONG among the events that it names: no more than can stand right behind a DEFECT, each with a unit of its own.
 """
 
 from lib.calls import MOST_CLEARANCE, MOST_UNITS
@@ -20,6 +21,7 @@ LEAST_ROOM = 8
 SCREENING, SAMPLING = 0, 1
 CSP_2, CSP_T = 'CSP-2', 'CSP-T'
 NO_CAUSE = 'PHASE with no cause'
+BY_MARKER = ', since each LONG that the marker counts has a unit of its own'
 BLOCK = {2: 1, 3: 2}  # L, in multiples of n, at the level that a PHASE to level 1 or to level 2 leaves
 
 
@@ -68,6 +70,7 @@ class History:
         self.type = None               # CSP-2 or CSP-T, once an event has shown that it is
         self.last = 0                  # the last unit, as far as it is told
         self.settled = 0               # up to this unit no result can be owed
+        self.shown = ''                # what shows these two, where no entry does
         self.forget_plan()
         self.forget()
 
@@ -90,6 +93,7 @@ class History:
         self.silence = None            # the unit and the count of the last SILENCE
         self.due = None
         self.alone = True              # the event before is not known
+        self.may_cause = True          # and it may be the DEFECT of a LONG
 
     def forget_screening(self):
         self.run_from = ()             # the units after which run may count, none where that is not known
@@ -113,13 +117,13 @@ class History:
         except Impossible as why:
             self.take_as_is(unit)
             return str(why)
-        self.alone = False
+        self.alone = self.may_cause = False
         return None
 
     def take_as_is(self, unit):
         """After an impossible entry the next ones are held to it and to no more, so that one fault is said once."""
         self.forget()
-        self.last, self.settled = unit, max(0, unit - 1)
+        self.last, self.settled, self.shown = unit, max(0, unit - 1), ''
 
     def answer_due(self, kind, unit, value):
         """Whether the entry is what the one before calls for. LONG comes for no other reason."""
@@ -132,8 +136,14 @@ class History:
         elif due is not None and due.certain:
             raise Impossible(f'the {due.cause} just before it calls for {KINDS[due.kind]} next')
         else:
-            demand(kind != LONG or self.alone, 'no cause for it stands just before it')
+            self.demand_cause(kind)
             self.nothing_came(due)
+
+    def demand_cause(self, kind):
+        """LONG has its DEFECT before it, told or hidden."""
+        if kind == LONG and not self.may_cause:
+            before = 'the last event that the marker names cannot be its cause'
+            raise Impossible(before if self.alone else 'no cause for it stands just before it')
 
     def nothing_came(self, due):
         """What it shows that a defect was followed by neither LONG nor PHASE."""
@@ -154,12 +164,12 @@ class History:
     def at(self, unit, settles, handled):
         """The last unit is this one. `handled`: its result has just been given; `settles`: none is owed."""
         if unit < self.last:
-            raise Impossible(f'units run backwards: unit {self.last:,} came before')
+            raise Impossible(f'units run backwards: unit {self.last:,} came before{self.shown}')
         if handled and unit <= self.settled:
-            raise Impossible(f'the result of unit {unit:,} was given before')
+            raise Impossible(f'the result of unit {unit:,} was given before{self.shown}')
         if self.phase == SCREENING and self.run_from:
             self.before_sampling(unit, settles and not handled)
-        self.last, self.settled = unit, unit if settles else max(self.settled, unit - 1)
+        self.last, self.settled, self.shown = unit, unit if settles else max(self.settled, unit - 1), ''
 
     def before_sampling(self, unit, settled):
         """Run reaches need at the latest i units on, and then PHASE is told."""
@@ -338,6 +348,51 @@ class History:
         self.phase, self.run_from = SCREENING, (unit,)  # the sequence goes on, and screened with it
         self.spend(unit)
 
+    # ---- A marker
+
+    def dropped(self, first, count, long):
+        """Why no station could drop these events with so many LONG among them, or None."""
+        try:
+            may_cause = self.places_for(first, count, long)
+            self.units_for(long)
+        except Impossible as why:
+            self.forget()
+            return str(why)
+        if long == 0:
+            self.nothing_came(self.due_long())
+        self.forget()
+        self.may_cause = may_cause
+        return None
+
+    def due_long(self):
+        """The LONG that a DEFECT told just before has, or may have."""
+        return self.due if self.due is not None and self.due.kind == LONG else None
+
+    def places_for(self, first, count, long):
+        """Whether the last of these events may be the DEFECT of a LONG behind them.
+
+        A LONG stands right behind its DEFECT. So no two are neighbours, and the first of these is one only where the event
+        before it may be its DEFECT.
+        """
+        due, due_long = self.due, self.due_long()
+        known = first == 1 or (due is not None and due.certain and due_long is None)  # the first is START, or PHASE, or PLAN
+        caused = first > 2 and (due_long is not None or self.may_cause)
+        places = count - known + caused
+        demand(long <= count, f'it counts {long:,} LONG among {counted(count, "event")}')
+        if long > places // 2:
+            raise Impossible(too_many(first, places // 2))
+        if long == 0 and due_long is not None and due_long.certain:
+            raise Impossible('the DEFECT just before it calls for LONG next, and it counts none')
+        return long <= (places - 1) // 2
+
+    def units_for(self, long):
+        """Each LONG is of a unit of its own, whose result was given; one may be of the DEFECT told just before."""
+        own = long - (self.due_long() is not None)
+        if own > 0:
+            demand(self.settled + own <= MOST_UNITS, f'unit numbers end at {MOST_UNITS:,}, and each LONG has one of its own')
+            self.last = self.settled = self.settled + own
+            self.shown = BY_MARKER
+
     # ---- A change of plan
 
     def plan(self, number, unit, value):
@@ -385,6 +440,12 @@ def also(units, unit):
     return tuple(sorted({*units, unit})) if units else ()
 
 
+def too_many(first, most):
+    """Words for a marker that counts more LONG than the most that can be among the events from the first on."""
+    start = 'event 1 is START, and ' if first == 1 else ''
+    return f'{start}a LONG stands right behind its DEFECT, so {f"at most {most:,}" if most else "none"} of these can be LONG'
+
+
 FOLLOWING = (PHASE, LONG, PLAN)
 RULES = {
     START: History.start, PHASE: History.phase_told, LONG: History.long_screening, DEFECT: History.defect,
@@ -392,10 +453,8 @@ RULES = {
 }
 
 
-def marker_fault(number, unit, value):
+def marker_fault(number, value):
     """Why no station could write a marker: it names numbers, and C newer events pushed out each of them."""
-    if unit != 0:
-        return 'a marker has unit 0'
     if value == 0:
         return 'a marker names one number or more'
     if number + value - 1 > MOST_EVENTS - LEAST_ROOM:

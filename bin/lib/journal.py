@@ -1,8 +1,9 @@
 """The journal that a file of answers tells: which event numbers it accounts for, and whether a station could write it."""
 
+from lib.alarms import Alarms
 from lib.frequency import Frequencies
 from lib.history import MOST_EVENTS, RULES, History, marker_fault
-from lib.words import GAP, PLAN, REFUSALS, START, counted, few, span, spans
+from lib.words import GAP, LONG, PLAN, REFUSALS, START, counted, few, single, span, spans
 
 IMPOSSIBLE = 'no station could write this: '
 
@@ -18,6 +19,7 @@ class Journal:
         self.impossible = []   # the lines that no station could write
         self.plans = 0         # changes of plan that were told
         self.asked = asked
+        self.alarms = Alarms()
         self.history = History(asked)
         self.frequencies = Frequencies(asked)
 
@@ -32,7 +34,7 @@ class Journal:
         if number == self.last + 1 <= MOST_EVENTS and kind in RULES:
             self.last = number  # an event in its place, as nearly all are
             return self.possible(line, kind, number, unit, value)
-        fault = alone_fault(kind, number, unit, value)
+        fault = alone_fault(kind, number, value)
         if fault is not None:
             return self.cannot_be(line, fault)
         last = number + value - 1 if kind == GAP else number
@@ -41,9 +43,7 @@ class Journal:
         hole = self.hole_before(number)
         self.last = last
         if kind == GAP:
-            self.forget()
-            join(self.marked, number, last)
-            return hole
+            return self.marker(line, number, last, unit) or hole
         return self.possible(line, kind, number, unit, value) or hole
 
     def possible(self, line, kind, number, unit, value):
@@ -51,19 +51,26 @@ class Journal:
         if fault is None:
             self.frequencies.told(kind, unit, value)
             self.plans += kind == PLAN
+            self.alarms.told += kind == LONG
             return None
         self.frequencies.lose()
         return self.cannot_be(line, fault)
 
-    def forget(self):
-        """Events are not told here."""
-        self.history.forget()
+    def marker(self, line, first, last, long):
+        """A marker that counts so many LONG: its numbers are named, whether it can count so many or not."""
+        join(self.marked, first, last)
         self.frequencies.lose()
+        fault = self.history.dropped(first, last - first + 1, long)
+        if fault is not None:
+            return self.cannot_be(line, fault)
+        self.alarms.marker(first, last, long)
+        return None
 
     def hole_before(self, number):
         if number == self.last + 1:
             return None
-        self.forget()
+        self.history.forget()
+        self.frequencies.lose()
         join(self.missing, self.last + 1, number - 1)
         return f'missing before this: {span(self.last + 1, number - 1)}'
 
@@ -94,6 +101,22 @@ class Journal:
         parts.append(f'this file cannot tell what came after {self.last:,}')
         return f'{"Event" if self.last == 1 else "Events"} {span(1, self.last)}: {"; ".join(parts)}.'
 
+    def doubts(self):
+        """Why it is not known of every event up to the last what it was, or that it was dropped."""
+        whys = []
+        if self.missing:
+            events, are = ('event', 'is') if single(self.missing) else ('events', 'are')
+            whys.append(f'{events} {spans(self.missing)} {are} missing')
+        if self.repeated:
+            whys.append('entries are out of order')
+        if self.impossible:
+            whys.append('no station could write this journal')
+        return whys
+
+    def alarms_told(self):
+        """How many alarms there were up to the last event, and whether one was lost, as far as that is known."""
+        return self.alarms.line(self.last, self.doubts())
+
     def verdict(self, noun='line'):
         """A line on what no station could write, or None."""
         if not self.impossible:
@@ -111,13 +134,13 @@ def join(stretches, first, last):
 
 # ---- What is wrong with an answer by itself
 
-def alone_fault(kind, number, unit, value):
+def alone_fault(kind, number, value):
     """Why no entry has these words, whatever came before it, or None."""
     if kind != GAP and kind not in RULES:
         return f'there is no kind {kind}'
     if not 1 <= number <= MOST_EVENTS:
         return f'event numbers are 1 to {MOST_EVENTS:,}'
-    return marker_fault(number, unit, value) if kind == GAP else None
+    return marker_fault(number, value) if kind == GAP else None
 
 
 def plain_fault(refusal, kind, number, unit, value):

@@ -66,6 +66,11 @@ def spans(ranges):
     return few([span(first, last) for first, last in ranges])
 
 
+def single(ranges):
+    """Whether they are one number."""
+    return ranges[0][0] == ranges[-1][1]
+
+
 def one_in(n):
     """A frequency."""
     return f'one in {n:,}'
@@ -85,6 +90,19 @@ def new_plan(n):
     return f'a new plan takes force: {one_in(n)}' if LEAST_N <= n <= MOST_N else f'value {n:,}'
 
 
+def among(count, long):
+    """What a marker counts among so many dropped events: a single one is a LONG, or is none."""
+    if count == 1 and long <= 1:
+        return 'a LONG' if long else 'no LONG'
+    return f'of them {long:,} LONG' if long else 'no LONG among them'
+
+
+def gap(number, long, count):
+    if count == 0:
+        return f'value 0, unit {long:,}' if long else 'value 0'
+    return f'{counted(count, "event")} dropped: {span(number, number + count - 1)}, {among(count, long)}'
+
+
 SAYING = {
     START: lambda unit, value: f'clearance number {value:,}',
     PHASE: lambda unit, value: named(PHASES, value),
@@ -99,14 +117,14 @@ SAYING = {
 
 
 def entry(kind, number, unit, value):
-    """The columns of an event or of a marker: its name, its number, its unit, and what it says."""
+    """The columns of an event or of a marker: its name, its number, its unit, and what it says. A marker has no unit."""
     if kind == GAP:
-        said = f'{counted(value, "event")} dropped: {span(number, number + value - 1)}' if value else 'value 0'
+        said = gap(number, unit, value)
     elif kind in SAYING:
         said = SAYING[kind](unit, value)
     else:
         return f'kind {kind:<4}  {number:>9,}  {unit:>9,}  value {value:,}'
-    seen = f'{unit:>9,}' if unit else NO_UNIT
+    seen = f'{unit:>9,}' if unit and kind != GAP else NO_UNIT
     return f'{KINDS[kind]:<9}  {number:>9,}  {seen}  {said}'
 
 
