@@ -77,6 +77,7 @@ Summary
   units      8: 5 conforming, 0 defective, 3 passed, 0 missed, 0 owed a result
   unseen     at most 2 units in a row: 6 to 7 (passed)
   events     2 told: START 1, PHASE 1
+  alarms     up to event 2: 0 LONG told, 0 raised; no alarm was lost
   left       screening at unit 2, after 2 conforming units in a row: 1 to 2
   phases     1 to 2  screening
              3 to 8  sampling level 0

@@ -61,6 +61,7 @@ Summary
   units      6: 3 conforming, 0 defective, 1 passed, 1 missed, 1 owed a result
   unseen     at most 2 units in a row: 4 to 5 (4 passed, 5 missed); the result of unit 6 is owed
   events     4 told: START 1, PHASE 2, MISSED 1
+  alarms     up to event 4: 0 LONG told, 0 raised; no alarm was lost
   left       screening at unit 2, after 2 conforming units in a row: 1 to 2
   phases     1 to 2  screening
              3 to 4  sampling level 0
@@ -75,9 +76,60 @@ Summary
   plan       CSP-1 n 2 i 1 S 1 seed 0x0
   frames     21: open 1, tick 10, take 10; none refused
   units      none has come
-  events     8 told: SILENCE 8; 3 dropped
-  dropped    1 to 3: the first events, before SILENCE 4 (no unit yet)
-Events 1 to 3 were dropped, and the marker says so; 4 to 11 were taken.
+  events     8 told: SILENCE 8; 3 dropped, no LONG among them
+  dropped    1 to 3, no LONG among them: the first events, before SILENCE 4 (no unit yet)
+  alarms     up to event 11: 0 LONG told, 0 dropped, 0 raised; no alarm was lost
+Events 1 to 3 were dropped, no LONG among them, and the marker says so; 4 to 11 were taken.
+'''
+# Alarms that were lost: two with other events, and later one alone, behind its DEFECT.
+LOST = '''\
+    frame  call and answer         event         number       unit  what it says
+       18  take                    GAP                1             7 events dropped: 1 to 7, of them 2 LONG
+       19  take                    DEFECT             8          5  in screening
+       20  take                    LONG               9          5  5 units screened since the sequence began
+       21  take                    DEFECT            10          6  in screening
+       22  take                    LONG              11          6  6 units screened since the sequence began
+       23  take                    DEFECT            12          7  in screening
+       24  take                    LONG              13          7  7 units screened since the sequence began
+       25  take                    DEFECT            14          8  in screening
+       26  take                    LONG              15          8  8 units screened since the sequence began
+       38  take                    GAP               16             1 event dropped: 16, no LONG
+       39  take                    SILENCE           17          8  2 ticks in a row with no unit
+       40  take                    SILENCE           18          8  3 ticks in a row with no unit
+       41  take                    SILENCE           19          8  4 ticks in a row with no unit
+       42  take                    SILENCE           20          8  5 ticks in a row with no unit
+       43  take                    SILENCE           21          8  6 ticks in a row with no unit
+       44  take                    SILENCE           22          8  7 ticks in a row with no unit
+       45  take                    SILENCE           23          8  8 ticks in a row with no unit
+       46  take                    SILENCE           24          8  9 ticks in a row with no unit
+       50  take                    DEFECT            25          9  in screening
+       60  take                    GAP               26             1 event dropped: 26, a LONG
+       61  take                    SILENCE           27          9  1 tick in a row with no unit
+       62  take                    SILENCE           28          9  2 ticks in a row with no unit
+       63  take                    SILENCE           29          9  3 ticks in a row with no unit
+       64  take                    SILENCE           30          9  4 ticks in a row with no unit
+       65  take                    SILENCE           31          9  5 ticks in a row with no unit
+       66  take                    SILENCE           32          9  6 ticks in a row with no unit
+       67  take                    SILENCE           33          9  7 ticks in a row with no unit
+       68  take                    SILENCE           34          9  8 ticks in a row with no unit
+
+Summary
+  plan       CSP-1 n 2 i 2 S 3 seed 0x0
+  frames     69: open 1, unit 9, result 9, tick 19, take 31; none refused
+  units      9: 0 conforming, 9 defective, 0 passed, 0 missed, 0 owed a result
+  unseen     none: every unit was inspected
+  events     25 told: LONG 4, DEFECT 5, SILENCE 16; 9 dropped, of them 3 LONG
+  dropped    1 to 7, of them 2 LONG: the first events, before DEFECT 8 (unit 5)
+             16, no LONG: after LONG 15 (unit 8), before SILENCE 17 (unit 8)
+             26, a LONG: after DEFECT 25 (unit 9), before SILENCE 27 (unit 9)
+  alarms     up to event 34: 4 LONG told, 3 dropped, 7 raised
+  left       screening perhaps: events were dropped
+  phases     1 to 4  not told
+             5 to 9  screening
+             [????#####]
+             one sign a unit: # screening, 0 1 2 sampling level, . a missed stretch, ? not told
+ALARM LOST: 3 LONG were dropped, and no entry tells them: 2 among 1 to 7, event 26.
+Of events 1 to 34, 9 were dropped, of them 3 LONG, in 3 stretches, and markers say so; 25 were taken.
 '''
 # Plans that change, in each way that frames can ask for it.
 CHANGED = '''\
@@ -137,6 +189,7 @@ Summary
   units      44: 8 conforming, 0 defective, 6 passed, 30 missed, 0 owed a result
   unseen     at most 31 units in a row: 7 to 37 (7 passed, 8 to 37 missed)
   events     9 told: START 1, PHASE 3, MISSED 1, PLAN 4
+  alarms     up to event 9: 0 LONG told, 0 raised; no alarm was lost
   left       screening at unit 3, after 3 conforming units in a row: 1 to 3
              screening at unit 39, after 1 conforming unit in a row: 39
   phases     1 to 3    screening
@@ -174,6 +227,29 @@ WRONG = {
     'another event for a change at once': (44, (0, 8, 7, 38, 0), 'the calls raise PLAN with unit 38 here'),
     'a call that tells half its events': (26, model.DONE, 'the MISSED that was told calls for PHASE next'),
 }
+# An open of a plan with an i of 1, a unit found defective, and then so many takes, so many ticks and takes up to "nothing",
+# once or twice: what is said last.
+DROPPED = {
+    ((1, 9),): ['ALARM LOST: 1 LONG was dropped, and no entry tells it: 1 among 2 to 3.',
+                'Events 2 to 3 were dropped, of them 1 LONG, and the marker says so; 1, 4 to 11 were taken.'],
+    ((2, 9),): ['ALARM LOST: 1 LONG was dropped, and no entry tells it: event 3.',
+                'Event 3 was dropped, a LONG, and the marker says so; 1 to 2, 4 to 11 were taken.'],
+    ((3, 10),): ['Event 4 was dropped, no LONG, and the marker says so; 1 to 3, 5 to 12 were taken.'],
+    ((3, 11),): ['Events 4 to 5 were dropped, no LONG among them, and the marker says so; 1 to 3, 6 to 13 were taken.'],
+    ((3, 10), (0, 9)): ['Events 4, 13 were dropped, no LONG among them, and markers say so; 1 to 3, 5 to 12, 14 to 21 were taken.'],
+    ((1, 9), (0, 9)): ['ALARM LOST: 1 LONG was dropped, and no entry tells it: 1 among 2 to 3.',
+                       'Events 2 to 3, 12 were dropped, of them 1 LONG, and markers say so; 1, 4 to 11, 13 to 20 were taken.'],
+    ((3, 10), (0, 9), (0, 10)): ['Of events 1 to 31, 4 were dropped, no LONG among them, in 3 stretches, and markers say so; 27 were taken.'],
+}
+# Sessions of a plan with an i of 1, an open, ten units found defective or ten ticks, and takes: the first of them tells a
+# marker. The same with another answer to one of the takes, and what is said of it.
+FORGED = {
+    'more LONG than events': (model.CSP_1, 'bad', 0, (0, 9, 1, 14, 13), 'it counts 14 LONG among 13 events'),
+    'more LONG than stand behind a DEFECT': (model.CSP_1, 'bad', 0, (0, 9, 1, 7, 13), 'so at most 6 of these can be LONG'),
+    'LONG dropped with no defect': (model.CSP_1, 'tick', 0, (0, 9, 1, 1, 3), 'that makes 1 LONG with 0 defective results'),
+    'LONG dropped where there is no alarm': (model.CSP_F, 'bad', 0, (0, 9, 1, 1, 3), 'CSP-F has no alarm'),
+    'LONG told where there is no alarm': (model.CSP_F, 'bad', 2, (0, 3, 5, 3, 3), 'CSP-F has no alarm'),
+}
 # Changes of plan written out by hand: each frame and its answer, with leading zeros of words cut.
 GOOD = '02 {0}>00 00 0 0 1, 03 0>00 00 0 0 0'
 BYTES = {
@@ -207,6 +283,7 @@ SAID_OF_CHANGES = {
 }
 # Weights of the calls as in `drive`: so many takes that the phase is known, and changes to say something of.
 TAKEN_AT_ONCE = (40, 1, 1, 1, 1, 2, 60, 12, 1, 1)
+TAKES = 9
 # A row that a stored session must have.
 ROWS = {
     'ill-formed-after-open': "        8  ill-formed frame: refused 9  '09'",
@@ -221,10 +298,11 @@ ROWS = {
     'unit-numbers': 'refused 7, the unit number is above the limit',
     'finds-refused': 'refused 8, not in screening, or nothing is left to recall',
     'case-4-levels': 'sampling level 2',
-    'markers-between-takes': '             7 to 26: after SILENCE 6 (no unit yet), before SILENCE 27 (no unit yet)',
+    'markers-between-takes':
+        '             7 to 26, no LONG among them: after SILENCE 6 (no unit yet), before SILENCE 27 (no unit yet)',
     'csp-t-drops-the-block': f'             [{"0" * 7}{"1" * 14}{"2" * 75}]',
     'jump-in-sampling': '             [#011.#00.#]',
-    'overflow-at-the-edge': 'Event 3 was dropped, and the marker says so; 1 to 2, 4 to 19 were taken.',
+    'overflow-at-the-edge': 'Event 3 was dropped, no LONG, and the marker says so; 1 to 2, 4 to 19 were taken.',
 }
 # What the last line says of a session of an open, two ticks and a unit, and then these calls.
 VERDICTS = {
@@ -246,14 +324,15 @@ def check(report, pair, options):
     stored_sessions(report)
     verdicts(report)
     changes(report)
+    alarms(report)
     heard = random_sessions(report, options)
     if programs.RECORDER in pair:
         by_recorder(report)
     with tempfile.TemporaryDirectory() as folder:
         os.chmod(folder, 0o755)
         ways = in_scratch(report, Path(folder))
-    return (f'every stored session, {len(VERDICTS)} verdicts, {len(WRONG)} wrong answers to changes of plan, '
-            f'{heard:,} random sessions against the model, '
+    return (f'every stored session, {len(VERDICTS) + len(DROPPED)} verdicts, {len(WRONG)} wrong answers to changes of plan, '
+            f'{len(FORGED)} wrong markers, {heard:,} random sessions against the model, '
             f'{ways} checks of how the commands are called and how they fail')
 
 
@@ -278,7 +357,7 @@ def stored_sessions(report):
         report.check(row in said, f'bin/session has no such row for sessions/{path.name}: {row}')
         *rows, verdict = map(len, said.splitlines())  # the verdict is one line, however much it has to say
         widest = max(rows)
-        report.check(widest <= 120 and verdict <= 160, f'bin/session writes {widest} columns and a verdict of {verdict} for sessions/{path.name}')
+        report.check(widest <= 120 and verdict <= 180, f'bin/session writes {widest} columns and a verdict of {verdict} for sessions/{path.name}')
 
 
 def verdicts(report):
@@ -374,6 +453,51 @@ def written(text, short):
     return ' '.join(parts[:short] + [part.zfill(8) for part in parts[short:]]).encode() + b'\n'
 
 
+# ---- Alarms that were lost
+
+def alarms(report):
+    script = check_journal.losing()
+    said = heard_of(script.text(), script.expected())[1]
+    rows = ''.join(row for row, answer in zip(said.splitlines(keepends=True), script.answers) if answer[1])
+    report.check(f'{HEAD}{rows}\n{said[said.index("Summary"):]}\n' == LOST, f'bin/session on lost alarms says:\n{said}')
+    for calls_made, due in DROPPED.items():
+        script = Script()
+        script.open(model.CSP_1, 2, 1)
+        script.bad()
+        for takes, ticks in calls_made:
+            if takes:
+                script.take(takes)
+            script.tick(ticks)
+            script.take_all()
+        said = heard_of(script.text(), script.expected())[1].splitlines()
+        closing = [line for line in said if line.startswith('ALARM LOST')] + said[-1:]
+        report.check(closing == due, f'bin/session after takes and ticks {calls_made} closes with: {closing}')
+    forged_markers(report)
+
+
+def forged_markers(report):
+    for type, calls_made in dict.fromkeys((type, calls_made) for type, calls_made, *_ in FORGED.values()):
+        script = with_a_marker(type, calls_made)
+        session, said = heard_of(script.text(), script.expected())
+        report.check(session.journal.sound(), f'bin/session does not take a marker that is right:\n{said}')
+    for name, (type, calls_made, take, answer, why) in FORGED.items():
+        script = with_a_marker(type, calls_made)
+        frame = len(script.answers) - TAKES + take
+        answers = [*script.answers[:frame], answer, *script.answers[frame + 1:]]
+        session, said = heard_of(script.text(), b''.join(map(model.written, answers)))
+        note = said.splitlines()[frame + 1]
+        noted = note.lstrip().startswith('!') and why in note and session.journal.impossible[0] == frame + 1
+        report.check(noted, f'bin/session on {name} says: {note}')
+
+
+def with_a_marker(type, calls_made):
+    script = Script()
+    script.open(type, 2, 1, N=100 if type == model.CSP_F else 0)
+    {'bad': script.bad, 'tick': script.tick}[calls_made](10)
+    script.take(TAKES)
+    return script
+
+
 # ---- Random sessions
 
 class Witness(check_journal.Witness):
@@ -395,13 +519,17 @@ class Witness(check_journal.Witness):
         return answer
 
 
+class Alarming(Witness, check_journal.Alarming):
+    """One that drops alarms."""
+
+
 def random_sessions(report, options):
     """The tallies are the model's, a phase that is told is right, and a session that was taken to its end tells all."""
     count = max(20, options.count // 15)
-    told = caught = 0
+    told = caught = lost = 0
     said_of_changes = Counter()
     for at in range(count):
-        witness = Witness(f'{options.seed}-session-{at}')
+        witness = (Alarming if at % 4 == 2 else Witness)(f'{options.seed}-session-{at}')
         witness.near_the_limit = lambda: None  # a million missed units make a slow witness
         if at % 2:
             witness.weights = TAKEN_AT_ONCE
@@ -409,6 +537,7 @@ def random_sessions(report, options):
         session, said = heard_of(text, witness.expected_for(text))
         report.check(session.journal.sound(), f'bin/session calls random session {at} impossible: {said.splitlines()[-1]}')
         told += against_model(report, at, witness, session, said.splitlines()[-1])
+        lost += alarms_said(report, at, witness, session, said)
         caught += one_wrong_answer(report, at, witness, text)
         said_of_changes.update(changes_said(report, at, witness, text, said))
         waiting = session.waiting()
@@ -418,6 +547,7 @@ def random_sessions(report, options):
         report.check(not wrong, f'random session {at} has the wrong frequency: {wrong[:2]}')
     report.reached(said_of_changes, SAID_OF_CHANGES)
     report.check(told > 0, 'no random session told every phase')
+    report.check(lost > 0, 'no random session lost an alarm')
     report.check(caught > count * 2 // 3, f'of {count} sessions with one wrong answer {caught} are caught')
     return count
 
@@ -432,6 +562,20 @@ def changes_said(report, at, witness, text, said):
             good = ending is None or SAID_OF_CHANGES[ending] == is_new
             report.check(good, f'random session {at} says of a change: {rows[frame]}, and n is {witness.around[frame]}')
             yield ending
+
+
+def alarms_said(report, at, witness, session, said):
+    """How many alarms were dropped. They and those told are the ones raised up to the last event that was taken."""
+    last, kinds = session.journal.last, [kind for _, kind, *_ in witness.answers]
+    told = kinds.count(model.LONG)
+    lost = witness.raised()[:last].count(model.LONG) - told
+    due = [f'  alarms     {check_journal.alarms_due(last, told, lost, model.MARKER in kinds)}'] if last else []
+    shown = [line for line in said.splitlines() if line.startswith('  alarms ')]
+    loud = said.splitlines()[-2].startswith(f'ALARM LOST: {lost:,} LONG w')
+    report.check(shown == due and loud == (lost > 0), f'random session {at} says of alarms {shown}, and {due} is due')
+    by_stretch = sum(gap['long'] for gap in session.gaps)
+    report.check(by_stretch == lost, f'random session {at} has {by_stretch} LONG in the stretches dropped, and {lost} were')
+    return lost
 
 
 def one_wrong_answer(report, at, witness, text):
@@ -483,6 +627,7 @@ def by_recorder(report):
     text = (FOLDER / 'example.in').read_bytes()
     expect(report, 'standard input', command('session', '--events', '-', input=text), 0, events)
     expect(report, 'changes of plan', command('session', '-', input=changing().text()), 0, CHANGED)
+    expect(report, 'lost alarms', command('session', '--events', '-', input=check_journal.losing().text()), 0, LOST)
 
 
 def expect(report, name, done, status, said):
@@ -513,6 +658,7 @@ check)
 esac
 '''
 LOADER = '#!/bin/sh\nshift 2\nexec "$@"\n'
+NOTHING = '00 00 00000000 00000000 00000000'
 STORED = 'cat >/dev/null; cat "$(dirname "$0")/../../sessions/example.out"'  # a recorder for one session
 # Runs a command as if nothing could be written: a superuser may write whatever the modes say.
 READ_ONLY = '''\
@@ -680,7 +826,7 @@ def run_refuses(report, scratch, source):
 
 def recorders(report, scratch):
     """A recorder that fails, dies, or gives too few or too many answers."""
-    answers, line = STORED, '00 00 00000000 00000000 00000000'
+    answers, line = STORED, NOTHING
     for name, script, status, *said in (
         ('a status', f'{answers}; echo oh dear >&2; exit 7', 7, 'ended with status 7', '14 of 14', 'oh dear'),
         ('a signal', f'{answers} | head -n 3; kill -KILL $$', 128 + signal.SIGKILL, 'signal 9', '3 of 14 answers'),
@@ -692,6 +838,12 @@ def recorders(report, scratch):
     ):
         scratch.remake(script)
         fails(report, f'a recorder with {name}', scratch.run('session'), status, *said)
+    wrong_answers(report, scratch)
+    scratch.remake(STORED)
+
+
+def wrong_answers(report, scratch):
+    """A recorder whose answers are not those of a station; each is the stored session with one line changed."""
     for name, change, said in (
         ('an order to a result', '3s/0$/1/', 'only a unit is given an order'),
         ('an event to a unit', '2s/^00 00/00 06/', 'only a take tells an event'),
@@ -699,24 +851,26 @@ def recorders(report, scratch):
         ('a second START', '11s/.*/00 01 00000002 00000000 00000002/', 'a second START'),
         ('an event that cannot be', '11s/1$/2/', 'no step leads'),
         ('a lost event', '11s/00000002/00000003/', 'missing before this: 2'),
+        ('alarms past a lost event', '11s/00000002/00000003/', 'whether one was lost is not told: event 2 is missing'),
         ('a refusal that is none', '2s/^00/0B/', 'no unit is refused with 11'),
-        ('a journal that is kept back', f'10s/.*/{line}/', '2 events or more are untold'),
+        ('a journal that is kept back', f'10s/.*/{NOTHING}/', '2 events or more are untold'),
         ('another plan than was opened', '10s/2$/3/', 'the calls raise START with unit 0 here'),
         ('an event that no call raised', '11s/.*/00 06 00000002 00000001 00000001/', 'the calls raise MISSED with unit 5 here'),
         ('an event of a kind that is none', '10s/^00 01/00 0B/', 'there is no kind 11'),
         ('a plan that takes force with no change', '12s/.*/00 0A 00000003 00000004 00000003/', 'only a higher frequency'),
         ('a plan that nobody asked for', '11s/.*/00 0A 00000002 00000001 00000003/', 'no change that was taken asks for one in 3'),
         ('a marker that names nothing', '10s/.*/00 09 00000001 00000000 00000000/', 'names one number or more'),
+        ('a marker that counts LONG for START', '10s/.*/00 09 00000001 00000001 00000001/', 'event 1 is START'),
+        ('a marker that counts LONG with no defect', '10s/.*/00 09 00000001 00000001 00000003/', 'with 0 defective results'),
         ('a unit that has not come', '13s/00000006/00000007/', 'calls for unit 6'),
         ('an order that is due no more', '14s/.*/09 00 00000000 00000000 00000000/', 'no take is refused with 9'),
         ('a refusal that is not due', '4s/.*/04 00 00000000 00000000 00000000/', 'no refusal is due here'),
         ('an event more at the end', '14s/.*/00 06 00000005 00000006 00000001/', 'no call has raised it'),
     ):
-        scratch.remake(f'{answers} | sed "{change}"')
+        scratch.remake(f'{STORED} | sed "{change}"')
         done = scratch.run('session')
         noted = done.returncode == 1 and said in done.stdout.decode() and not done.stderr
         report.check(noted, f'{name}: {done.returncode}:\n{done.stdout.decode()}')
-    scratch.remake(STORED)
 
 
 def kits(report, scratch):

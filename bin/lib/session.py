@@ -198,7 +198,7 @@ class Session:
         self.refusals = Counter()
         self.events = Counter()
         self.told = None      # the last event that was told
-        self.gaps = []        # each stretch that markers name, with the events told before and after it
+        self.gaps = []        # each stretch that markers name, their count of LONG, and the events told before and after it
         self.empty = 0        # takes that came back empty
 
     # ---- Hearing
@@ -261,7 +261,8 @@ class Session:
         if fault or kind == GAP:
             self.raised.lose()
         if fault is None and kind == GAP:
-            self.gap(number, number + value - 1)
+            self.gap(number, number + value - 1, unit)
+            fault = self.unfounded(at, self.alarms_unraised())
         elif fault is None:
             self.event(kind, number, unit)
             self.phases.told(before, kind, min(unit, self.tally.last), value, self.may_drop())
@@ -276,6 +277,21 @@ class Session:
         why = self.raised.told(kind, unit, value)
         if unit > self.tally.last:
             why = 'no such unit has come'
+        elif kind == LONG:
+            why = self.alarms_unraised()
+        return self.unfounded(at, why)
+
+    def alarms_unraised(self):
+        """Why the calls do not raise every LONG that is told or counted, or None: each has a defective result of its own."""
+        count, defective = self.journal.alarms.raised(), self.tally.defective
+        if count and self.plans.type == 'CSP-F':
+            return 'CSP-F has no alarm'
+        if count > defective:
+            return f'that makes {count:,} LONG with {counted(defective, "defective result")}'
+        return None
+
+    def unfounded(self, at, why):
+        """Notes an entry that the calls do not bear out, where there is a reason."""
         return self.journal.cannot_be(at, why) if why else None
 
     def leaves(self, before, value):
@@ -301,12 +317,13 @@ class Session:
         if self.gaps and self.gaps[-1]['after'] is None:
             self.gaps[-1]['after'] = self.told
 
-    def gap(self, first, last):
+    def gap(self, first, last, long):
         """Markers that follow each other name one stretch to a reader."""
         if self.gaps and self.gaps[-1]['after'] is None:
             self.gaps[-1]['last'] = last
+            self.gaps[-1]['long'] += long
         else:
-            self.gaps.append({'first': first, 'last': last, 'before': self.told, 'after': None})
+            self.gaps.append({'first': first, 'last': last, 'long': long, 'before': self.told, 'after': None})
 
     # ---- Accepted calls that tell no entry: what each does here, and its words
 

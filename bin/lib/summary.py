@@ -1,10 +1,10 @@
-"""A session in a few lines: plan, units, events, what was dropped and left, phases, frequencies, and one line of verdict."""
+"""A session in a few lines: plan, units, events, what was dropped, alarms, what was left, phases, frequencies, a verdict."""
 
 import textwrap
 
 from lib import phases
 from lib.calls import CHANGE, FIND, INTERRUPTED, NAMES, NO_FRAME, OPEN, RESULT, TABLE, TAKE, TICK, UNIT
-from lib.words import KINDS, counted, span, spans
+from lib.words import KINDS, among, counted, single, span, spans
 
 LABEL = 11
 WIDTH = 100
@@ -13,21 +13,23 @@ ORDER = (OPEN, TABLE, UNIT, RESULT, INTERRUPTED, FIND, TICK, CHANGE, TAKE, NO_FR
 
 
 def lines(session):
-    """The summary, line for line; the verdict is the last."""
+    """The summary, line for line; the verdict is the last, and an alarm that was lost stands before it."""
     parts = [('plan', [plan(session)]), ('frames', frames(session))]
     if session.plan:
         last, owed = session.tally.last, session.tally.owed
         parts += [('units', [units(session.tally)])]
         parts += [('unseen', [session.unseen.line(last, owed)])] if last else []
-        parts += [('events', [events(session)])]
+        parts += [('events', events(session))]
         parts += [('dropped', dropped(session))] if session.gaps else []
+        parts += [('alarms', [session.journal.alarms_told()])] if session.journal.last else []
         parts += [('left', left(session)), ('phases', phase_lines(session))] if last else []
         parts += [('frequency', session.frequencies())] if last and session.journal.asked else []
         parts += [('waiting', [session.waiting()])] if session.waiting() else []
     told = ['Summary']
     for label, texts in parts:
         told += [f'  {label if at == 0 else "":<{LABEL}}{text}' for at, text in enumerate(texts)]
-    return told + [verdict(session)]
+    loud = session.journal.alarms.loud()
+    return told + ([loud] if loud else []) + [verdict(session)]
 
 
 # ---- The parts
@@ -61,14 +63,26 @@ def units(tally):
 
 def events(session):
     by_kind = ', '.join(f'{KINDS[kind]} {count:,}' for kind, count in sorted(session.events.items()))
-    named = sum(gap['last'] - gap['first'] + 1 for gap in session.gaps)
-    told = sum(session.events.values())
-    return (f'{told:,} told: {by_kind}' if told else 'none told') + (f'; {named:,} dropped' if named else '')
+    count = sum(session.events.values())
+    told = f'{count:,} told: {by_kind}' if count else 'none told'
+    if not session.gaps:
+        return [told]
+    rest = f'{dropped_in(session.gaps):,} dropped, {of_them(session.gaps)}'
+    return [f'{told}; {rest}'] if len(told) + len(rest) < WIDTH else [f'{told};', rest]
+
+
+def dropped_in(gaps):
+    return sum(gap['last'] - gap['first'] + 1 for gap in gaps)
+
+
+def of_them(gaps):
+    """How many LONG the markers count there."""
+    return among(dropped_in(gaps), sum(gap['long'] for gap in gaps))
 
 
 def dropped(session):
-    """What each marker names, and the events told on either side of it."""
-    rows = [f'{span(gap["first"], gap["last"])}: {between(gap)}' for gap in session.gaps]
+    """What each marker names and counts, and the events told on either side of it."""
+    rows = [f'{span(gap["first"], gap["last"])}, {of_them([gap])}: {between(gap)}' for gap in session.gaps]
     more = len(rows) - phases.MOST_ROWS
     return rows[:phases.MOST_ROWS] + ([f'and {more:,} more stretches'] if more > 0 else [])
 
@@ -139,18 +153,18 @@ def taken(session):
     if not gaps:
         return f'{"Event" if last == 1 else "Events"} {span(1, last)}: taken, and none is missing.'
     if len(gaps) > FEW_GAPS:
-        return many_dropped(last, gaps)
+        return many_dropped(last, session.gaps)
     by = 'the marker says' if len(gaps) == 1 else 'markers say'
-    were = f'Event {gaps[0][0]:,} was' if gaps[0][0] == gaps[-1][1] else f'Events {spans(gaps)} were'
-    said = f'{were} dropped, and {by} so'
+    were = f'Event {gaps[0][0]:,} was' if single(gaps) else f'Events {spans(gaps)} were'
+    said = f'{were} dropped, {of_them(session.gaps)}, and {by} so'
     rest = others(gaps, last)
-    return f'{said}; {spans(rest)} {"was" if rest[0][0] == rest[-1][1] else "were"} taken.' if rest else f'{said}.'
+    return f'{said}; {spans(rest)} {"was" if single(rest) else "were"} taken.' if rest else f'{said}.'
 
 
 def many_dropped(last, gaps):
-    count = sum(end - first + 1 for first, end in gaps)
-    stretches = f'{len(gaps):,} stretches'
-    return f'Of events 1 to {last:,}, {count:,} were dropped, in {stretches}, and markers say so; {last - count:,} were taken.'
+    count = dropped_in(gaps)
+    said = f'{count:,} were dropped, {of_them(gaps)}, in {len(gaps):,} stretches'
+    return f'Of events 1 to {last:,}, {said}, and markers say so; {last - count:,} were taken.'
 
 
 def others(gaps, last):
