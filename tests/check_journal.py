@@ -342,6 +342,11 @@ HISTORIES = {
     'LONG behind a marker that names a PHASE alone':
         ((*SAMPLING, (INTERRUPT, 9, 0), (MARKER, 0, 1)), (SILENCE, 9, 1), (LONG, 9, 9), 'cannot be its cause'),
     'LONG behind a defective sample': ((*SAMPLING, (DEFECT, 9, 1)), (MARKER, 0, 1), (MARKER, 1, 1), 'none of these'),
+    'LONG behind a DEFECT that came too soon': ((OPEN, (DEFECT, 4, 0)), (MARKER, 1, 2), (MARKER, 1, 1), 'none of these'),
+    'LONG behind a DEFECT where a later one had none':
+        ((OPEN, (DEFECT, 5, 0), (DEFECT, 7, 0), (INTERRUPT, 7, 0), (DEFECT, 12, 0)), (MARKER, 1, 2), (MARKER, 1, 1), 'none of these'),
+    'LONG behind a DEFECT that came too soon, and no unit for it':
+        ((OPEN, (DEFECT, 4, 0), (MARKER, 1, 2)), (SILENCE, 5, 1), (SILENCE, 4, 1), 'unit 5 came before, since each LONG'),
     'LONG where PHASE is due': ((*SAMPLING, (MISSED, 7, 2)), (MARKER, 1, 3), (MARKER, 1, 2), 'none of these'),
     'LONG where PLAN is due': ((*SAMPLING, (PHASE, 9, 0)), (MARKER, 1, 3), (MARKER, 1, 2), 'none of these'),
     'LONG that is due and not among the dropped':

@@ -365,8 +365,14 @@ class History:
         return None
 
     def due_long(self):
-        """The LONG that a DEFECT told just before has, or may have."""
-        return self.due if self.due is not None and self.due.kind == LONG else None
+        """The LONG that a DEFECT told just before has, or may have; None where it can have none."""
+        due = self.due
+        return due if due is not None and due.kind == LONG and self.may_be_long(due.unit) else None
+
+    def may_be_long(self, unit):
+        """Whether screened, this unit counted, can be S or more."""
+        most = unit - min(sequence.earliest for sequence in self.sequences)
+        return most >= self.i[0] and most > self.quiet_at
 
     def places_for(self, first, count, long):
         """Whether the last of these events may be the DEFECT of a LONG behind them.
