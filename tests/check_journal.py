@@ -960,7 +960,7 @@ def random_alarms(report, options):
     report.check(lost > 0, 'no LONG was dropped in random sessions')
     said = (f'{lost:,} LONG dropped in random sessions; of {tried["above"]:,} counts above the right one {caught["above"]:,} caught, '
             f'of {tried["below"]:,} below it {caught["below"]:,}')
-    report.check(caught['above'] * 2 > tried['above'], said)
+    report.check(caught['above'] * 3 > tried['above'], said)
     return said
 
 
