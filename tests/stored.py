@@ -2594,3 +2594,11 @@ def pinned_csp_1_lost(s):
     s.tick(2)
     s.interrupt()
     s.take(2)
+
+
+@session
+def pinned_csp_1_lost_many(s):
+    """Pinned. CSP-1: thirty defects and no take: a marker has lost 26 LONG of 53 events."""
+    s.open(CSP_1, 2, 1, seed=0xBB67AE85)
+    s.bad(30)
+    s.take(2)

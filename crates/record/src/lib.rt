@@ -224,7 +224,7 @@ fn sound_numbers(room: u32, n: Numbers) -> bool
 {
     let next = n.next as u64;
     let full = (n.oldest as u64) + (room as u64);
-    let owned = (n.told as u64) + (n.lost as u64);
+    let told_and_lost = (n.told as u64) + (n.lost as u64);
     (1 <= n.told)
         & (n.told <= n.oldest)
         & (n.oldest <= n.next)
@@ -232,7 +232,7 @@ fn sound_numbers(room: u32, n: Numbers) -> bool
         & (n.next <= EVENTS_END)
         & (next <= full)
         & ((n.oldest == n.told) | (next == full))
-        & (owned <= (n.oldest as u64))
+        & (told_and_lost <= (n.oldest as u64))
 }
 
 fn sound_silence(q: Silence, n: Numbers) -> bool
