@@ -241,14 +241,22 @@ DROPPED = {
                        'Events 2 to 3, 12 were dropped, of them 1 LONG, and markers say so; 1, 4 to 11, 13 to 20 were taken.'],
     ((3, 10), (0, 9), (0, 10)): ['Of events 1 to 31, 4 were dropped, no LONG among them, in 3 stretches, and markers say so; 27 were taken.'],
 }
-# Sessions of a plan with an i of 1, an open, ten units found defective or ten ticks, and takes: the first of them tells a
-# marker. The same with another answer to one of the takes, and what is said of it.
+# Sessions of a plan with an i of 1: ticks, units found defective, takes, more such units, takes. The first take tells a marker.
+MARKED = {'bad': (0, 10, 0), 'tick': (10, 0, 0), 'tick and bad': (12, 2, 3)}
+# The same with another answer to that take or to one behind it, how many frames in a row cannot be then, and what is said of
+# the first. What is behind a wrong marker is right and is not blamed; what is behind a wrong event is held to that one's unit.
 FORGED = {
-    'more LONG than events': (model.CSP_1, 'bad', 0, (0, 9, 1, 14, 13), 'it counts 14 LONG among 13 events'),
-    'more LONG than stand behind a DEFECT': (model.CSP_1, 'bad', 0, (0, 9, 1, 7, 13), 'so at most 6 of these can be LONG'),
-    'LONG dropped with no defect': (model.CSP_1, 'tick', 0, (0, 9, 1, 1, 3), 'that makes 1 LONG with 0 defective results'),
-    'LONG dropped where there is no alarm': (model.CSP_F, 'bad', 0, (0, 9, 1, 1, 3), 'CSP-F has no alarm'),
-    'LONG told where there is no alarm': (model.CSP_F, 'bad', 2, (0, 3, 5, 3, 3), 'CSP-F has no alarm'),
+    'more LONG than events': (model.CSP_1, 'bad', 0, (0, 9, 1, 14, 13), 1, 'it counts 14 LONG among 13 events'),
+    'more LONG than stand behind a DEFECT': (model.CSP_1, 'bad', 0, (0, 9, 1, 7, 13), 1, 'so at most 6 of these can be LONG'),
+    'LONG dropped with no defect': (model.CSP_1, 'tick', 0, (0, 9, 1, 1, 3), 1, 'that makes 1 LONG with 0 defective results'),
+    'LONG dropped before the first defect':
+        (model.CSP_1, 'tick and bad', 0, (0, 9, 1, 4, 9), 1, 'that makes 4 LONG with 2 defective results'),
+    'LONG dropped where there is no alarm': (model.CSP_F, 'bad', 0, (0, 9, 1, 1, 3), 1, 'CSP-F has no alarm'),
+    'LONG dropped before the first defect, where there is no alarm':
+        (model.CSP_F, 'tick and bad', 0, (0, 9, 1, 1, 7), 1, 'CSP-F has no alarm'),
+    'LONG told where there is no alarm': (model.CSP_F, 'bad', 2, (0, 3, 5, 3, 3), 1, 'CSP-F has no alarm'),
+    'LONG told with no defect': (model.CSP_1, 'tick', 1, (0, 3, 4, 0, 1), 1, 'that makes 1 LONG with 0 defective results'),
+    'LONG told of a unit that has not come': (model.CSP_1, 'tick and bad', 1, (0, 3, 10, 6, 6), 2, 'no such unit has come'),
 }
 # Changes of plan written out by hand: each frame and its answer, with leading zeros of words cut.
 GOOD = '02 {0}>00 00 0 0 1, 03 0>00 00 0 0 0'
@@ -283,7 +291,6 @@ SAID_OF_CHANGES = {
 }
 # Weights of the calls as in `drive`: so many takes that the phase is known, and changes to say something of.
 TAKEN_AT_ONCE = (40, 1, 1, 1, 1, 2, 60, 12, 1, 1)
-TAKES = 9
 # A row that a stored session must have.
 ROWS = {
     'ill-formed-after-open': "        8  ill-formed frame: refused 9  '09'",
@@ -480,21 +487,29 @@ def forged_markers(report):
         script = with_a_marker(type, calls_made)
         session, said = heard_of(script.text(), script.expected())
         report.check(session.journal.sound(), f'bin/session does not take a marker that is right:\n{said}')
-    for name, (type, calls_made, take, answer, why) in FORGED.items():
+    for name, (type, calls_made, take, answer, count, why) in FORGED.items():
         script = with_a_marker(type, calls_made)
-        frame = len(script.answers) - TAKES + take
+        kinds = [kind for _, kind, *_ in script.answers]
+        frame = kinds.index(model.MARKER) + take
         answers = [*script.answers[:frame], answer, *script.answers[frame + 1:]]
         session, said = heard_of(script.text(), b''.join(map(model.written, answers)))
-        note = said.splitlines()[frame + 1]
-        noted = note.lstrip().startswith('!') and why in note and session.journal.impossible[0] == frame + 1
-        report.check(noted, f'bin/session on {name} says: {note}')
+        note, bad = said.splitlines()[frame + 1], session.journal.impossible
+        noted = note.lstrip().startswith('!') and why in note and bad == [*range(frame + 1, frame + 1 + count)]
+        report.check(noted, f'bin/session on {name} says: {note}, and frames {bad} cannot be')
+        counted = session.journal.alarms.told == kinds.count(model.LONG) and 'ALARM LOST' not in said
+        report.check(counted, f'bin/session counts what cannot be, on {name}:\n{said}')
 
 
 def with_a_marker(type, calls_made):
     script = Script()
     script.open(type, 2, 1, N=100 if type == model.CSP_F else 0)
-    {'bad': script.bad, 'tick': script.tick}[calls_made](10)
-    script.take(TAKES)
+    ticks, first, more = MARKED[calls_made]
+    if ticks:
+        script.tick(ticks)
+    script.bad(first)
+    script.take_all()
+    script.bad(more)
+    script.take_all()
     return script
 
 

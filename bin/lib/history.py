@@ -102,8 +102,8 @@ class History:
 
     # ---- Hearing
 
-    def hear(self, kind, number, unit, value):
-        """Why no station could write this entry after those before it, or None."""
+    def hear(self, kind, number, unit, value, unraised=None):
+        """Why no station could write this entry after those before it, or None. `unraised`: why its calls do not raise it."""
         try:
             if (kind == START) != (number == 1):
                 raise Impossible('a second START' if kind == START else 'event 1 is START')
@@ -113,6 +113,8 @@ class History:
                 raise Impossible(f'no {KINDS[kind]} has a number above {LATEST.get(kind, LAST_FIRST):,}')
             if self.due is not None or kind in FOLLOWING:
                 self.answer_due(kind, unit, value)
+            if unraised is not None:
+                raise Impossible(unraised)  # before its rule, which learns from it
             RULES[kind](self, number, unit, value)
         except Impossible as why:
             self.take_as_is(unit)
@@ -350,10 +352,11 @@ class History:
 
     # ---- A marker
 
-    def dropped(self, first, count, long):
-        """Why no station could drop these events with so many LONG among them, or None."""
+    def dropped(self, first, count, long, unraised=None):
+        """Why no station could drop these events with so many LONG among them, or None. `unraised`: why its calls raise fewer."""
         try:
             may_cause = self.places_for(first, count, long)
+            demand(unraised is None, unraised)
             self.units_for(long)
         except Impossible as why:
             self.forget()

@@ -9,9 +9,13 @@ IMPOSSIBLE = 'no station could write this: '
 
 
 class Journal:
-    """What the entries so far have told. `asked`: the n of each change of plan that was taken, where that is known."""
+    """What the entries so far have told.
 
-    def __init__(self, asked=None):
+    Where the calls are known, `asked` is the n of each change of plan that was taken, and `unraised` says why the calls do
+    not raise so many LONG in all, or one with such a unit, or None.
+    """
+
+    def __init__(self, asked=None, unraised=None):
         self.last = 0          # the highest number told or named
         self.missing = []      # stretches that no entry names
         self.marked = []       # stretches that a marker names
@@ -19,6 +23,7 @@ class Journal:
         self.impossible = []   # the lines that no station could write
         self.plans = 0         # changes of plan that were told
         self.asked = asked
+        self.unraised = unraised
         self.alarms = Alarms()
         self.history = History(asked)
         self.frequencies = Frequencies(asked)
@@ -47,7 +52,8 @@ class Journal:
         return self.possible(line, kind, number, unit, value) or hole
 
     def possible(self, line, kind, number, unit, value):
-        fault = self.history.hear(kind, number, unit, value)
+        unfounded = self.unfounded(1, unit) if kind == LONG else None
+        fault = self.history.hear(kind, number, unit, value, unfounded)
         if fault is None:
             self.frequencies.told(kind, unit, value)
             self.plans += kind == PLAN
@@ -60,11 +66,15 @@ class Journal:
         """A marker that counts so many LONG: its numbers are named, whether it can count so many or not."""
         join(self.marked, first, last)
         self.frequencies.lose()
-        fault = self.history.dropped(first, last - first + 1, long)
+        fault = self.history.dropped(first, last - first + 1, long, self.unfounded(long))
         if fault is not None:
             return self.cannot_be(line, fault)
         self.alarms.marker(first, last, long)
         return None
+
+    def unfounded(self, more, unit=0):
+        """Why the calls, where they are known, do not raise so many LONG more, or None."""
+        return self.unraised(self.alarms.raised() + more, unit) if self.unraised else None
 
     def hole_before(self, number):
         if number == self.last + 1:

@@ -16,6 +16,7 @@ from lib.words import CHECK, DEFECT, GAP, INTERRUPT, KINDS, LONG, MISSED, PHASE,
 
 FRAME, CALL = 9, 22  # columns
 NUMBERS_END = 10  # a refusal that no call asks for: it comes when the event numbers run out
+NO_SUCH_UNIT = 'no such unit has come'
 HEAD = f'{"frame":>{FRAME}}  {"call and answer":<{CALL}}  {words.COLUMNS}'
 
 
@@ -184,7 +185,7 @@ class Raised:
 
 class Session:
     def __init__(self):
-        self.journal = Journal(asked=set())
+        self.journal = Journal(asked=set(), unraised=self.alarms_unraised)
         self.tally = Tally()
         self.raised = Raised()
         self.phases = Phases()
@@ -262,7 +263,6 @@ class Session:
             self.raised.lose()
         if fault is None and kind == GAP:
             self.gap(number, number + value - 1, unit)
-            fault = self.unfounded(at, self.alarms_unraised())
         elif fault is None:
             self.event(kind, number, unit)
             self.phases.told(before, kind, min(unit, self.tally.last), value, self.may_drop())
@@ -276,23 +276,19 @@ class Session:
         """Whether the calls raise an event that a station could write; what is wrong, or None."""
         why = self.raised.told(kind, unit, value)
         if unit > self.tally.last:
-            why = 'no such unit has come'
-        elif kind == LONG:
-            why = self.alarms_unraised()
-        return self.unfounded(at, why)
+            why = NO_SUCH_UNIT
+        return self.journal.cannot_be(at, why) if why else None
 
-    def alarms_unraised(self):
-        """Why the calls do not raise every LONG that is told or counted, or None: each has a defective result of its own."""
-        count, defective = self.journal.alarms.raised(), self.tally.defective
+    def alarms_unraised(self, count, unit):
+        """Why the calls do not raise so many LONG, or one with this unit, or None: each has a defective result of its own."""
+        defective = self.tally.defective
+        if unit > self.tally.last:
+            return NO_SUCH_UNIT
         if count and self.plans.type == 'CSP-F':
             return 'CSP-F has no alarm'
         if count > defective:
             return f'that makes {count:,} LONG with {counted(defective, "defective result")}'
         return None
-
-    def unfounded(self, at, why):
-        """Notes an entry that the calls do not bear out, where there is a reason."""
-        return self.journal.cannot_be(at, why) if why else None
 
     def leaves(self, before, value):
         """Whether a PHASE tells for certain that screening was left: one to level 0 may also come from a higher level."""
