@@ -515,7 +515,7 @@ def of_sound_files():
          'Events 1 to 24: all accounted for; only named by a marker: 1 to 24; this file cannot tell what came after 24.',
          'Alarms up to event 24: 0 LONG told, 7 dropped, 7 raised.',
          'ALARM LOST: 7 LONG were dropped, and no entry tells them: '
-         '1 among 4 to 6, 1 among 7 to 9, 1 among 10 to 12, 1 among 13 to 15, 1 among 16 to 18 and 2 more.'),
+         '1 among 4 to 6, 1 among 7 to 9, 1 among 10 to 12, 1 among 13 to 15, 1 among 16 to 18 and 2 more markers.'),
     ]
 
 

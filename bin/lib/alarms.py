@@ -35,7 +35,7 @@ class Alarms:
         if not self.lost:
             return None
         were, them = ('was', 'it') if self.dropped == 1 else ('were', 'them')
-        where = few([counted_in(*marker) for marker in self.lost])
+        where = few([counted_in(*marker) for marker in self.lost], 'marker')
         return f'ALARM LOST: {self.dropped:,} LONG {were} dropped, and no entry tells {them}: {where}.'
 
 

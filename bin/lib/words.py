@@ -56,10 +56,11 @@ def span(first, last):
     return f'{first:,}' if first == last else f'{first:,} to {last:,}'
 
 
-def few(parts):
-    """A list to be read: the first few, and how many more there are."""
+def few(parts, noun=None):
+    """A list to be read: the first few, and how many more there are; of what, where the parts have other numbers in them."""
     more = len(parts) - SHOWN
-    return ', '.join(parts[:SHOWN]) + (f' and {more:,} more' if more > 0 else '')
+    rest = counted(more, f'more {noun}') if noun else f'{more:,} more'
+    return ', '.join(parts[:SHOWN]) + (f' and {rest}' if more > 0 else '')
 
 
 def spans(ranges):
