@@ -492,7 +492,7 @@ def check(report, pair, options):
 
 def closings():
     """Files, each with the exit status and the lines behind the rows."""
-    return [*of_sound_files(), *of_unsound_files()]
+    return [*of_sound_files(), *of_unsound_files(), *of_unsound_alarms()]
 
 
 def of_sound_files():
@@ -528,15 +528,6 @@ def of_unsound_files():
         ('a repeated line', told(1, 2, 2, 3), 1,
          'Events 1 to 3: all accounted for; out of order: 2; this file cannot tell what came after 3.',
          'Alarms up to event 3: 0 LONG told; whether one was lost is not told: entries are out of order.'),
-        ('a repeated alarm', lines((0, 9, 1, 0, 8), (0, 4, 9, 5, 0), *2 * [(0, 3, 10, 5, 5)]), 1,
-         'Events 1 to 10: all accounted for; out of order: 10; only named by a marker: 1 to 8; '
-         'this file cannot tell what came after 10.',
-         'Alarms up to event 10: 1 LONG told, 0 dropped; whether one was lost is not told: entries are out of order.'),
-        ('a repeated marker', lines(*2 * [(0, 9, 1, 1, 3)]), 1,
-         'Events 1 to 3: all accounted for; out of order: 1 to 3; only named by a marker: 1 to 3; '
-         'this file cannot tell what came after 3.',
-         'Alarms up to event 3: 0 LONG told, 1 dropped; whether another was lost is not told: entries are out of order.',
-         'ALARM LOST: 1 LONG was dropped, and no entry tells it: 1 among 1 to 3.'),
         ('a swapped pair', told(1, 3, 2, 4), 1,
          'Events 1 to 4: missing: 2; out of order: 2; this file cannot tell what came after 4.',
          'Alarms up to event 4: 0 LONG told; whether one was lost is not told: event 2 is missing and entries are out of order.'),
@@ -548,14 +539,45 @@ def of_unsound_files():
          'Alarms up to event 2: 0 LONG told; whether one was lost is not told: '
          'entries are out of order and no station could write this journal.',
          'No station could write this journal: 1 line cannot be (line 3).'),
-        ('a marker that counts too many', lines((0, 9, 1, 0, 3), (0, 9, 4, 4, 3)), 1,
-         'Events 1 to 6: all accounted for; only named by a marker: 1 to 6; this file cannot tell what came after 6.',
-         'Alarms up to event 6: 0 LONG told, 0 dropped; whether one was lost is not told: no station could write this journal.',
-         'No station could write this journal: 1 line cannot be (line 2).'),
         ('many holes', told(1, *range(3, 40, 2)), 1,
          'Events 1 to 39: missing: 2, 4, 6, 8, 10 and 14 more; this file cannot tell what came after 39.',
          'Alarms up to event 39: 0 LONG told; whether one was lost is not told: '
          'events 2, 4, 6, 8, 10 and 14 more are missing.'),
+    ]
+
+
+def of_unsound_alarms():
+    """Alarms and markers that are shown and not counted."""
+    return [
+        ('a repeated alarm', lines((0, 9, 1, 0, 8), (0, 4, 9, 5, 0), *2 * [(0, 3, 10, 5, 5)]), 1,
+         'Events 1 to 10: all accounted for; out of order: 10; only named by a marker: 1 to 8; '
+         'this file cannot tell what came after 10.',
+         'Alarms up to event 10: 1 LONG told in order, 0 dropped; whether one was lost is not told: entries are out of order.'),
+        ('a repeated marker', lines(*2 * [(0, 9, 1, 1, 3)]), 1,
+         'Events 1 to 3: all accounted for; out of order: 1 to 3; only named by a marker: 1 to 3; '
+         'this file cannot tell what came after 3.',
+         'Alarms up to event 3: 0 LONG told, 1 dropped; whether another was lost is not told: entries are out of order.',
+         'ALARM LOST: 1 LONG was dropped, and no entry tells it: 1 among 1 to 3.'),
+        ('a marker that counts too many', lines((0, 9, 1, 0, 3), (0, 9, 4, 4, 3)), 1,
+         'Events 1 to 6: all accounted for; only named by a marker: 1 to 6; this file cannot tell what came after 6.',
+         'Alarms up to event 6: 0 LONG told, 0 dropped; whether one was lost is not told: no station could write this journal.',
+         'No station could write this journal: 1 line cannot be (line 2).'),
+        ('an alarm that cannot be', lines(*numbered((OPEN, (LONG, 1, 1)))), 1,
+         'Events 1 to 2: all accounted for; this file cannot tell what came after 2.',
+         'Alarms up to event 2: 0 LONG told that a station could write; whether one was lost is not told: '
+         'no station could write this journal.',
+         'No station could write this journal: 1 line cannot be (line 2).'),
+        ('an alarm whose number cannot be', lines(*numbered((OPEN, (DEFECT, 5, 0), (LONG, 5, 5))), (0, 3, 8_000_001, 6, 6)), 1,
+         'Events 1 to 3: all accounted for; this file cannot tell what came after 3.',
+         'Alarms up to event 3: 1 LONG told that a station could write; whether one was lost is not told: '
+         'no station could write this journal.',
+         'No station could write this journal: 1 line cannot be (line 4).'),
+        ('an alarm that comes late, and one that cannot be', lines(*((0, kind, *words) for kind, *words in (
+            (START, 1, 0, 5), (SILENCE, 2, 0, 1), (DEFECT, 3, 5, 0), (SILENCE, 5, 5, 1), (LONG, 4, 5, 5), (LONG, 6, 5, 5)))), 1,
+         'Events 1 to 6: missing: 4; out of order: 4; this file cannot tell what came after 6.',
+         'Alarms up to event 6: 0 LONG told in order that a station could write; whether one was lost is not told: '
+         'event 4 is missing and entries are out of order and no station could write this journal.',
+         'No station could write this journal: 1 line cannot be (line 6).'),
     ]
 
 

@@ -9,7 +9,9 @@ from lib.words import few, span
 
 class Alarms:
     def __init__(self):
-        self.told = 0      # LONG entries
+        self.told = 0      # LONG entries in their order that a station could write
+        self.late = 0      # and those out of order
+        self.unsound = 0   # and those that no station could write
         self.dropped = 0   # LONG events that markers count
         self.markers = 0
         self.lost = []     # of each marker that counts one: the first number that it names, the last, and how many
@@ -25,10 +27,15 @@ class Alarms:
 
     def line(self, last, doubts):
         """How many there were up to an event, and whether one was lost. `doubts`: why not all up to it is known."""
-        told = f'up to event {last:,}: {self.told:,} LONG told' + (f', {self.dropped:,} dropped' if self.markers else '')
+        told = f'up to event {last:,}: {self.counted()}' + (f', {self.dropped:,} dropped' if self.markers else '')
         if doubts:
             return f'{told}; whether {"another" if self.lost else "one"} was lost is not told: {" and ".join(doubts)}'
         return f'{told}, {self.raised():,} raised' + ('' if self.lost else '; no alarm was lost')
+
+    def counted(self):
+        """How many are told; which of them, where a row shows one that is not among these."""
+        which = (' in order' if self.late else '') + (' that a station could write' if self.unsound else '')
+        return f'{self.told:,} LONG told{which}'
 
     def loud(self):
         """The sentence that nobody should overlook, or None where no marker counts a LONG."""

@@ -41,7 +41,7 @@ class Journal:
             return self.possible(line, kind, number, unit, value)
         fault = alone_fault(kind, number, value)
         if fault is not None:
-            return self.cannot_be(line, fault)
+            return self.cannot_be(line, fault, kind)
         last = number + value - 1 if kind == GAP else number
         if number <= self.last:
             return self.out_of_order(line, kind, number, last)
@@ -60,7 +60,7 @@ class Journal:
             self.alarms.told += kind == LONG
             return None
         self.frequencies.lose()
-        return self.cannot_be(line, fault)
+        return self.cannot_be(line, fault, kind)
 
     def marker(self, line, first, last, long):
         """A marker that counts so many LONG: its numbers are named, whether it can count so many or not."""
@@ -86,12 +86,15 @@ class Journal:
 
     def out_of_order(self, line, kind, first, last):
         join(self.repeated, first, last)
+        self.alarms.late += kind == LONG
         if kind == START:
             return self.cannot_be(line, 'a second START')
         return f'out of order: {span(first, last)} after {self.last:,}'
 
-    def cannot_be(self, line, why):
+    def cannot_be(self, line, why, kind=None):
+        """Notes a line that no station could write; `kind`: of the entry that its row shows."""
         self.impossible.append(line)
+        self.alarms.unsound += kind == LONG
         return IMPOSSIBLE + why
 
     # ---- Closing
