@@ -345,6 +345,9 @@ HISTORIES = {
     'LONG behind a DEFECT that came too soon': ((OPEN, (DEFECT, 4, 0)), (MARKER, 1, 2), (MARKER, 1, 1), 'none of these'),
     'LONG behind a DEFECT where a later one had none':
         ((OPEN, (DEFECT, 5, 0), (DEFECT, 7, 0), (INTERRUPT, 7, 0), (DEFECT, 12, 0)), (MARKER, 1, 2), (MARKER, 1, 1), 'none of these'),
+    'LONG behind a DEFECT with as many units as one that had none':
+        ((OPEN, (DEFECT, 5, 0), (DEFECT, 7, 0), (INTERRUPT, 7, 0), (DEFECT, 10, 0), (DEFECT, 14, 0)), (MARKER, 1, 2),
+         (MARKER, 1, 1), 'none of these'),
     'LONG behind a DEFECT that came too soon, and no unit for it':
         ((OPEN, (DEFECT, 4, 0), (MARKER, 1, 2)), (SILENCE, 5, 1), (SILENCE, 4, 1), 'unit 5 came before, since each LONG'),
     'LONG where PHASE is due': ((*SAMPLING, (MISSED, 7, 2)), (MARKER, 1, 3), (MARKER, 1, 2), 'none of these'),
@@ -765,6 +768,21 @@ def markers_heard(report):
         report.check(said.get(5, '').endswith(' came before'), f'bin/journal blames a marker for what an entry tells: {said}')
     said = faults(numbered((OPEN, (SILENCE, 2 ** 32 - 1, 1), (MARKER, 0, 3))))
     report.check(list(said) == [2], f'bin/journal blames a marker that counts no LONG: {said}')
+    wrong_markers(report)
+
+
+def wrong_markers(report):
+    """Behind a marker that cannot be, what it hides is not known, as behind any other; and event 1 is START, missing or not."""
+    for before, wrong, behind in (
+            (SAMPLING, (MARKER, 2, 1), (DEFECT, 9, 0)), (SAMPLING, (MARKER, 2, 1), (PLAN, 9, 2)),
+            ((OPEN,), (MARKER, 1, 1), (PHASE, 9, 2)), ((OPEN,), (MARKER, 4, 3), (LONG, 9, 9)),
+            ((OPEN, (DEFECT, 5, 0), (LONG, 5, 5), (DEFECT, 6, 0)), (MARKER, 0, 8), (SILENCE, 6, 1))):
+        said = faults(numbered((*before, wrong, behind)))
+        report.check(list(said) == [len(before) + 1], f'bin/journal on {behind} behind a marker that cannot be: {said}')
+    for long, count, cannot_be in ((1, 1, True), (1, 2, False), (2, 3, True)):
+        heard, said = heard_of([(0, MARKER, 2, long, count)])
+        good = bool(heard.impossible) == cannot_be and heard.missing == [(1, 1)]
+        report.check(good, f'bin/journal on a marker with {long} LONG of {count}, where event 1 is missing: {said}')
 
 
 # ---- Plans that change
