@@ -498,6 +498,25 @@ def forged_markers(report):
         report.check(noted, f'bin/session on {name} says: {note}, and frames {bad} cannot be')
         counted = session.journal.alarms.told == kinds.count(model.LONG) and 'ALARM LOST' not in said
         report.check(counted, f'bin/session counts what cannot be, on {name}:\n{said}')
+    one_too_many(report)
+
+
+def one_too_many(report):
+    """A marker that counts one LONG more than it names, where units enough have come: the last LONG behind it is one too many."""
+    script = Script()
+    script.open(model.CSP_1, 2, 1)
+    script.unit(50)
+    script.result(1)
+    script.tick(10)
+    script.bad(2)
+    script.take_all()
+    at = len(script.answers) - 1
+    script.bad()
+    script.take_all()
+    answers = [(*answer[:3], answer[3] + (answer[1] == model.MARKER), answer[4]) for answer in script.answers]
+    session, said = heard_of(script.text(), b''.join(map(model.written, answers)))
+    good = session.journal.impossible == [at] and 'that makes 4 LONG with 3 defective results' in said
+    report.check(good, f'bin/session on a marker that counts one LONG too many says:\n{said}')
 
 
 def with_a_marker(type, calls_made):
