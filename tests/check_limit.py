@@ -1,22 +1,23 @@
-"""Refusal 10 over frames: sessions that come to the end of the eight million event numbers. They are too long to store."""
+"""Sessions that are too long to store: they come to the end of the eight million event numbers, and to the end of the million
+units with an alarm at each."""
 
 import subprocess
 import tempfile
 
 import programs
-from model import DEFECT, DONE, EVENT_LIMIT, MARKER, PHASE, PLAN, PROGRAM_ROOM, SILENCE, refused, written
+from model import DEFECT, DONE, EVENT_LIMIT, LONG, MARKER, PHASE, PLAN, PROGRAM_ROOM, SILENCE, UNIT_LIMIT, refused, written
 from script import words
 
 OPEN = words(1, 1, 2, 1, 1, 0, 0, 0)
 # START and these leave four numbers.
 TICKS = EVENT_LIMIT - 5
-PATTERN = written(DONE) * 20_000
 INSPECT = (0, 0, 0, 0, 1)
 LOWER, EQUAL, OTHER_TYPE = (1, 3, 2, 2, 0, 0), (1, 2, 1, 1, 0, 0), (2, 2, 1, 1, 0, 0)
 
 
 def check(report, pair, options):
-    return hold(report, {program: programs.recorder_job(program) for program in pair})
+    jobs = {program: programs.recorder_job(program) for program in pair}
+    return f'{hold(report, jobs)}; {hold_alarms(report, jobs)}'
 
 
 def hold(report, jobs):
@@ -31,10 +32,35 @@ def hold(report, jobs):
             frames.write(b''.join(frame + b'\n' for frame, _ in turns))
             for program, job in jobs.items():
                 frames.seek(0)
-                said = compare(job, frames, TICKS + 1, [answer for _, answer in turns])
+                said = compare(job, frames, written(DONE), TICKS + 1, [answer for _, answer in turns])
                 report.check(not said, f'{end}, {program}: {said}')
     ended = ' and '.join(f'{len(turns)} to {end}' for end, turns in ends.items())
     return f'{TICKS + 1:,} frames that leave four of {EVENT_LIMIT:,} event numbers, then {ended}'
+
+
+def hold_alarms(report, jobs):
+    """Every unit there can be is defective, and with S 1 an alarm: the marker has lost all of them but those held."""
+    units = (words(2, unit) + b'\n' + words(3, 1) + b'\n' for unit in range(1, UNIT_LIMIT + 1))
+    turns = [(words(2, UNIT_LIMIT + 1), refused(7)), *the_alarms(), (words(7), DONE)]
+    with tempfile.TemporaryFile() as frames:
+        frames.write(OPEN + b'\n')
+        frames.writelines(units)
+        frames.write(b''.join(frame + b'\n' for frame, _ in turns))
+        for program, job in jobs.items():
+            frames.seek(0)
+            # The open is answered like a result: what repeats is that answer, and then the one to a unit.
+            said = compare(job, frames, written(DONE) + written(INSPECT), UNIT_LIMIT, [DONE, *(answer for _, answer in turns)])
+            report.check(not said, f'a million alarms, {program}: {said}')
+    return f'{UNIT_LIMIT:,} units with an alarm each'
+
+
+def the_alarms():
+    """START and two events a unit were raised, DEFECT and LONG; the newest that fit are held."""
+    lost, held = UNIT_LIMIT - PROGRAM_ROOM // 2, PROGRAM_ROOM // 2
+    yield words(7), (0, MARKER, 1, lost, 1 + 2 * lost)
+    for unit in range(UNIT_LIMIT - held + 1, UNIT_LIMIT + 1):
+        yield words(7), (0, DEFECT, 2 * unit, unit, 0)
+        yield words(7), (0, LONG, 2 * unit + 1, unit, unit)
 
 
 # ---- The last frames, and the documents' answer to each
@@ -78,11 +104,11 @@ def the_journal(events):
     yield words(7), DONE
 
 
-def compare(command, frames, plain, answers):
-    """Holds the output to so many answers of zeros and then the given ones, as it comes: it is too much to keep."""
+def compare(command, frames, pattern, times, answers):
+    """Holds the output to a pattern, so many times, and then to the given answers, as it comes: it is too much to keep."""
     process = subprocess.Popen(command, stdin=frames, stdout=subprocess.PIPE, env=programs.environment())
     with process.stdout as out:
-        said = plain_answers(out, plain)
+        said = repeated(out, pattern, times)
         if not said and out.read() != b''.join(map(written, answers)):
             said = 'the answers at the end are not the documents\''
     if process.wait() != 0:
@@ -90,11 +116,11 @@ def compare(command, frames, plain, answers):
     return said
 
 
-def plain_answers(out, plain):
-    left = 33 * plain
+def repeated(out, pattern, times):
+    left, many = times * len(pattern), pattern * 20_000
     while left:
-        part = out.read(min(left, len(PATTERN)))
-        if part != PATTERN[:len(part)] or not part:
-            return f'the answer to frame {plain - left // 33 + 1:,} or one soon after is not plain'
+        part = out.read(min(left, len(many)))
+        if part != many[:len(part)] or not part:
+            return f'the answer to frame {(times * len(pattern) - left) // 33 + 1:,} or one soon after is not the one due'
         left -= len(part)
     return ''

@@ -37,6 +37,7 @@ def check(report, pair, options):
     check_refusals(report)
     check_parts(report, jobs)
     check_limit.hold(report, {'tuned': jobs['tuned']})
+    check_limit.hold_alarms(report, {'tuned': jobs['tuned']})
     told_apart(report)
     return f'{", ".join(jobs)}: {recorded} stored sessions, {driven} random ones, {timed} of the benchmark; the floor is told apart'
 
