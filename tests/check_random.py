@@ -8,10 +8,13 @@ from collections import Counter
 
 import programs
 from drive import Driver
+from model import CSP_1
 from parallel import in_parallel
 from reached import GOALS
 
 PORTION = 20
+# A field of a record one too high, and what the driver must say of it: with a gap of five silences lost may be 1 and is 0.
+TOO_HIGH = {'lost': 'lost is not the number of LONG events in the gap', 'defective': 'the record is not sound'}
 
 
 def check(report, pair, options):
@@ -26,7 +29,21 @@ def check(report, pair, options):
             report.agreed(name, text, outputs)
         report.check(not faults, f'the model: {", ".join(faults)}')
     report.reached(reached, GOALS)
+    looked_at(report)
     return f'{options.count:,} sessions, {frames:,} frames, every record reached is sound and counts the LONG of its gap' + listing(reached, GOALS)
+
+
+def looked_at(report):
+    """A driver that no longer looked at the records would find no fault in them either."""
+    for field, due in TOO_HIGH.items():
+        driver = Driver(field)
+        driver.open(CSP_1, 2, 1)
+        driver.tick(12)
+        good = driver.faults == []
+        setattr(driver.station, field, getattr(driver.station, field) + 1)
+        driver.tick()
+        said = [fault.endswith(due) for fault in driver.faults]
+        report.check(good and said == [True], f'a driver says of a record with {field} one too high: {driver.faults}')
 
 
 def portions(options):
