@@ -13,7 +13,7 @@ use Rattle.frames.specs.Weights.{Weighs}
 use Rattle.frames.specs.declared.text.Walked.{Walked}
 
 abbrev walked : Session → ℕ → ℕ → Walked
-walked s from at = record { standing = record { opened = s .opened; station = s .station }; from = from; at = at }
+walked s from at = record { standing = record { opened = s .opened; number = s .number; station = s .station }; from = from; at = at }
 
 pub one-walk : (s : Session) (text before : List ℕ) (r r' : Walked) (queue queue' out out' : List ℕ)
     → Walks s text r queue before out → Walks s text r' queue' before out' → (r ≡ r') × (queue ≡ queue') × (out ≡ out')

@@ -26,14 +26,14 @@ module _ (r : Standing) (before : List ℕ) (at : ℕ) (out : List ℕ) where
       → Gives (frameReply b' s f) r queue before at out → Gives (frameReply b s f) r queue before at out
   gives-by b b' s f queue e g = rw e g
 
-  module _ (o : Outcome) (t : Turn) (queue : List ℕ) (m : Meets o t queue) where
-    pub gives-turn : (opened : Bool) → (r ≡ record { opened = opened; station = t .station }) × (out ≡ paste before at (answerLine (t .answer)) 33)
-        → Gives (replyWith opened o) r queue before at out
+  module _ (s : Standing) (before-queue : List ℕ) (o : Outcome) (t : Turn) (queue : List ℕ) (m : Meets o t queue) where
+    pub gives-turn : (opened : Bool) → (r ≡ record { opened = opened; number = s .number; station = t .station }) × (out ≡ paste before at (answerLine (t .answer)) 33)
+        → Gives (replyWith opened (sessionOf s before-queue) o) r queue before at out
     gives-turn opened e =
         record { session = rw (e .0, m .station, m .words); text = e .1 ∙ ap (λ (a : Answer). paste before at (answerLine a) 33) (m .answer) }
 
     pub gives-open : (opened : Bool) → opened ≡ accepted (t .answer)
-        → (r ≡ record { opened = opened; station = t .station }) × (out ≡ paste before at (answerLine (t .answer)) 33)
-        → Gives (openReply o) r queue before at out
+        → (r ≡ record { opened = opened; number = s .number; station = t .station }) × (out ≡ paste before at (answerLine (t .answer)) 33)
+        → Gives (openReply (sessionOf s before-queue) o) r queue before at out
     gives-open opened a e =
-        subst (λ (b : Bool). Gives (replyWith b o) r queue before at out) (a ∙ ap (λ (x : Answer). accepted x) (m .answer)) (gives-turn opened e)
+        subst (λ (b : Bool). Gives (replyWith b (sessionOf s before-queue) o) r queue before at out) (a ∙ ap (λ (x : Answer). accepted x) (m .answer)) (gives-turn opened e)

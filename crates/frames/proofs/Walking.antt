@@ -10,14 +10,19 @@ use lib.Dec.{eqb, ltb, leb}
 use lib.ListN.{length, take, drop, getD, length-drop}
 use lib.Seq.{append-snoc, take-all, take-suc, take-add, split-at, length-take-le, getD-take, getD-drop, drop-drop, paste, take-paste, drop-paste}
 use borrow.Author.Tests.{ne-eqb, ltb-true, ltb-false, leb-true, leb-false}
-use Rattle.rules.specs.Tests.{pick}
+use Rattle.rules.specs.Tests.{pick, within}
 use Rattle.rules.specs.Calls.{answerValues, openCall, outcome}
-use Rattle.rules.specs.Frames.{printed, reply, readingReply, frameReply, tableReply, readLine}
+use Rattle.rules.specs.Frames.{printed, reply, readingReply, frameReply, answerLine, refusedReply, withNumber, numberReply, seedOf, foundReply, tableReply, readLine}
 use Rattle.rules.specs.Tables.{lookUp}
 use Rattle.rules.specs.declared.Found.{Found}
 use Rattle.rules.specs.declared.Found.the-variants as found
+use Rattle.rules.specs.declared.Optional.{Optional}
+use Rattle.rules.specs.declared.Optional.the-variants.{Given, LeftOff}
+use Rattle.rules.specs.declared.Answer.the-variants.{Done}
+use Rattle.rules.specs.declared.Refusal.the-variants.{IllFormed}
+use Rattle.rules.specs.declared.Reply.{Reply}
 use Rattle.rules.specs.declared.Frame.{Frame}
-use Rattle.rules.specs.declared.Frame.the-variants.{Open, OpenTable, Call}
+use Rattle.rules.specs.declared.Frame.the-variants.{Open, OpenTable, StationNumber, Call}
 use Rattle.rules.specs.declared.Reading.{Reading}
 use Rattle.rules.specs.declared.Reading.the-variants.{Read, Bad}
 use Rattle.rules.specs.declared.Session.{Session}
@@ -46,15 +51,28 @@ printed-length : (v : Values) → length (printed v) ≡ 33
 unfolding printed
 printed-length v = refl
 
-table-length : (s : Session) (seed : ℕ) (f : Found) → length (tableReply s seed f .text) ≡ 33
-table-length s seed (found.Plan p) = printed-length _
-table-length s seed found.Absent = printed-length _
+found-length : (s : Session) (seed : ℕ) (f : Found) → length (foundReply s seed f .text) ≡ 33
+found-length s seed (found.Plan p) = printed-length _
+found-length s seed found.Absent = printed-length _
+
+table-length : (s : Session) (seed : Optional) (f : Found) → length (tableReply s seed f .text) ≡ 33
+table-length s (Given seed) f = found-length s seed f
+table-length s LeftOff f = printed-length _
+
+number-length : (s : Session) (number : ℕ) → length (numberReply s number .text) ≡ 33
+number-length s number = go (within 1 number 65535)
+  where
+    go : (b : Bool) → length (pick b (record { session = withNumber number s; text = answerLine Done }) (refusedReply s IllFormed) .text) ≡ 33
+    go true = printed-length _
+    go false = printed-length _
 
 frame-length : (b : Bool) (s : Session) (f : Frame) → length (frameReply b s f .text) ≡ 33
 frame-length true s (Open p seed) = printed-length _
 frame-length false s (Open p seed) = printed-length _
 frame-length true s (OpenTable kind letter aql period seed) = printed-length _
-frame-length false s (OpenTable kind letter aql period seed) = table-length s seed (lookUp kind letter aql period)
+frame-length false s (OpenTable kind letter aql period seed) = table-length s (seedOf seed (s .number)) (lookUp kind letter aql period)
+frame-length true s (StationNumber number) = printed-length _
+frame-length false s (StationNumber number) = number-length s number
 frame-length true s (Call c) = printed-length _
 frame-length false s (Call c) = printed-length _
 

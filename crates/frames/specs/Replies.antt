@@ -9,11 +9,11 @@ use Rattle.rules.specs.declared.Reply.{Reply}
 use Rattle.frames.specs.declared.session.Standing.{Standing}
 
 abbrev pub sessionOf : Standing → List ℕ → Session
-sessionOf s queue = record { opened = s .opened; station = s .station; queue = queue }
+sessionOf s queue = record { opened = s .opened; number = s .number; station = s .station; queue = queue }
 
 -- a session's standing at the start
 abbrev pub newStanding : Standing
-newStanding = record { opened = newSession .opened; station = newSession .station }
+newStanding = record { opened = newSession .opened; number = newSession .number; station = newSession .station }
 
 -- the standing and the queue afterwards are those of the reply, and the output has its line at an index and is as it was elsewhere
 pub record Gives (p : Reply) (r : Standing) (queue before : List ℕ) (at : ℕ) (out : List ℕ) : Type 0 where

@@ -3,12 +3,13 @@ use crate::digits;
 use crate::digits::NONE;
 use rules::Call;
 use rules::Frame;
+use rules::Optional;
 use rules::Plan;
 use rules::Reading;
 ghost use mathlib.Core.Path.{_≡_};
 ghost use Prim.Native.Nat.{_+_, _*_, _≤_};
 ghost use lib.ListN.{length};
-ghost use Rattle.rules.specs.Frames.{hex, word, spaced, bareFrame, oneWordFrame, tableFrame, planFrame, sevenWordFrame, frameOf, readLine};
+ghost use Rattle.rules.specs.Frames.{hex, word, spaced, bareFrame, oneWordFrame, tableFrame, seededFrame, planFrame, sevenWordFrame, frameOf, readLine};
 ghost use Rattle.frames.specs.Weights.{Weighs};
 
 fn spaced(space: u8, v: u64) -> u64
@@ -56,10 +57,13 @@ fn one_word_frame(code: u64, a: u64) -> Reading
     if code == 3 {
         return Reading::Read(Frame::Call(Call::Result(a as u32)));
     }
+    if code == 10 {
+        return Reading::Read(Frame::StationNumber(a as u32));
+    }
     Reading::Bad
 }
 
-fn table_frame(code: u64, kind: u64, letter: u64, aql: u64, period: u64, seed: u64) -> Reading
+fn table_frame(code: u64, kind: u64, letter: u64, aql: u64, period: u64, seed: Optional) -> Reading
     ensures { λ r. ⌜ r ≡ tableFrame code kind letter aql period seed ⌝ }
 {
     if code != 8 {
@@ -77,16 +81,23 @@ fn table_frame(code: u64, kind: u64, letter: u64, aql: u64, period: u64, seed: u
     if NONE <= period {
         return Reading::Bad;
     }
-    if NONE <= seed {
-        return Reading::Bad;
-    }
     Reading::Read(Frame::OpenTable {
         kind: kind as u32,
         letter: letter as u32,
         aql: aql as u32,
         period: period as u32,
-        seed: seed as u32,
+        seed: seed,
     })
+}
+
+fn seeded_frame(code: u64, kind: u64, letter: u64, aql: u64, period: u64, seed: u64) -> Reading
+    ensures { λ r. ⌜ r ≡ seededFrame code kind letter aql period seed ⌝ }
+{
+    if NONE <= seed {
+        return Reading::Bad;
+    }
+    let given = Optional::Given(seed as u32);
+    table_frame(code, kind, letter, aql, period, given)
 }
 
 // A plan and a seed, or a plan and 0 or 1, on demand.
@@ -165,11 +176,11 @@ fn longer_frame(weights: &[u64], line: &[u8]) -> Reading
             word(weights, line, 1),
             word(weights, line, 2),
             word(weights, line, 3),
-            0,
+            Optional::LeftOff,
         );
     }
     if n == 47 {
-        return table_frame(
+        return seeded_frame(
             digits::hex2(weights, line, 0),
             word(weights, line, 0),
             word(weights, line, 1),

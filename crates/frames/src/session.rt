@@ -8,6 +8,7 @@ use rules::Answer;
 use rules::Call;
 use rules::Found;
 use rules::Frame;
+use rules::Optional;
 use rules::Plan;
 use rules::Reading;
 use rules::Refusal;
@@ -15,16 +16,17 @@ use rules::Station;
 ghost use mathlib.Core.Path.{_≡_};
 ghost use mathlib.Core.Bool.{true, false};
 ghost use Rattle.rules.specs.Calls.{openCall, outcome};
-ghost use Rattle.rules.specs.Frames.{newSession, answerLine, accepted, openReply, replyWith, tableReply, frameReply, reply};
+ghost use Rattle.rules.specs.Frames.{newSession, answerLine, accepted, openReply, replyWith, numberReply, seedOf, foundReply, tableReply, frameReply, reply};
 ghost use Prim.Native.Nat.{_+_, _≤_};
 ghost use lib.ListN.{length};
 ghost use lib.Seq.{paste};
 ghost use Rattle.frames.specs.Replies.{Gives, sessionOf, newStanding};
 ghost use Rattle.frames.specs.Weights.{Weighs};
 
-// Whether an open was accepted, and the station; with the queue beside it this is the session.
+// Whether an open was accepted, the station number, and the station; with the queue beside it this is the session.
 pub struct Standing {
     pub opened: bool,
+    pub number: Optional,
     pub station: Station,
 }
 
@@ -34,6 +36,7 @@ pub fn new_standing() -> Standing
     let station = station::no_station();
     Standing {
         opened: false,
+        number: Optional::LeftOff,
         station: station,
     }
 }
@@ -55,9 +58,16 @@ fn accepted(a: Answer) -> bool
 }
 
 // An open's answer and standing.
-fn open_reply(q: &mut [u32], plan: Plan, seed: u32, out: &mut [u8], at: usize) -> Standing
+fn open_reply(
+    s: Standing,
+    q: &mut [u32],
+    plan: Plan,
+    seed: u32,
+    out: &mut [u8],
+    at: usize,
+) -> Standing
     requires { ⌜ at + 33 ≤ length (now out) ⌝ }
-    ensures { λ r. ⌜ Gives (openReply (openCall plan seed (now (q .entry)))) r (now (q .exit)) (now (out .entry)) at (now (out .exit)) ⌝ }
+    ensures { λ r. ⌜ Gives (openReply (sessionOf s (now (q .entry))) (openCall plan seed (now (q .entry)))) r (now (q .exit)) (now (out .entry)) at (now (out .exit)) ⌝ }
 {
     let turn = station::open(plan, seed, q);
     let answer = turn.answer;
@@ -65,6 +75,7 @@ fn open_reply(q: &mut [u32], plan: Plan, seed: u32, out: &mut [u8], at: usize) -
     put_line(out, at, answer_line(answer));
     Standing {
         opened: accepted(answer),
+        number: s.number,
         station,
     }
 }
@@ -78,30 +89,74 @@ fn refused_reply(s: Standing, r: Refusal, out: &mut [u8], at: usize) -> Standing
     s
 }
 
+// A station number before the open.
+fn number_reply(s: Standing, q: &[u32], number: u32, out: &mut [u8], at: usize) -> Standing
+    requires { ⌜ at + 33 ≤ length (now out) ⌝ }
+    ensures { λ r. ⌜ Gives (numberReply (sessionOf s (now (q .entry))) number) r (now (q .entry)) (now (out .entry)) at (now (out .exit)) ⌝ }
+{
+    if (number < 1) | (65535 < number) {
+        return refused_reply(s, Refusal::IllFormed, out, at);
+    }
+    put_answer(out, at, Answer::Done);
+    let station = s.station;
+    Standing {
+        opened: s.opened,
+        number: Optional::Given(number),
+        station,
+    }
+}
+
+// The seed of a table open: the one that is written, or the station number.
+fn seed_of(seed: Optional, number: Optional) -> Optional
+    ensures { λ r. ⌜ r ≡ seedOf seed number ⌝ }
+{
+    match seed {
+        Optional::Given(_) => seed,
+        Optional::LeftOff => number,
+    }
+}
+
+fn found_reply(
+    s: Standing,
+    q: &mut [u32],
+    seed: u32,
+    found: Found,
+    out: &mut [u8],
+    at: usize,
+) -> Standing
+    requires { ⌜ at + 33 ≤ length (now out) ⌝ }
+    ensures { λ r. ⌜ Gives (foundReply (sessionOf s (now (q .entry))) seed found) r (now (q .exit)) (now (out .entry)) at (now (out .exit)) ⌝ }
+{
+    match found {
+        Found::Plan(plan) => open_reply(s, q, plan, seed, out, at),
+        Found::Absent => refused_reply(s, Refusal::PlanOutOfRange, out, at),
+    }
+}
+
 fn table_reply(
     s: Standing,
     q: &mut [u32],
+    seed: Optional,
     found: Found,
-    seed: u32,
     out: &mut [u8],
     at: usize,
 ) -> Standing
     requires { ⌜ at + 33 ≤ length (now out) ⌝ }
     ensures { λ r. ⌜ Gives (tableReply (sessionOf s (now (q .entry))) seed found) r (now (q .exit)) (now (out .entry)) at (now (out .exit)) ⌝ }
 {
-    match found {
-        Found::Plan(plan) => open_reply(q, plan, seed, out, at),
-        Found::Absent => refused_reply(s, Refusal::PlanOutOfRange, out, at),
+    match seed {
+        Optional::Given(seed) => found_reply(s, q, seed, found, out, at),
+        Optional::LeftOff => refused_reply(s, Refusal::IllFormed, out, at),
     }
 }
 
-// Before an accepted open only an open is taken.
+// Before an accepted open only an open and a station number are taken.
 fn first_reply(s: Standing, q: &mut [u32], frame: Frame, out: &mut [u8], at: usize) -> Standing
     requires { ⌜ at + 33 ≤ length (now out) ⌝ }
     ensures { λ r. ⌜ Gives (frameReply false (sessionOf s (now (q .entry))) frame) r (now (q .exit)) (now (out .entry)) at (now (out .exit)) ⌝ }
 {
     match frame {
-        Frame::Open { plan, seed } => open_reply(q, plan, seed, out, at),
+        Frame::Open { plan, seed } => open_reply(s, q, plan, seed, out, at),
         Frame::OpenTable {
             kind,
             letter,
@@ -111,18 +166,19 @@ fn first_reply(s: Standing, q: &mut [u32], frame: Frame, out: &mut [u8], at: usi
         } => table_reply(
             s,
             q,
+            seed_of(seed, s.number),
             tables::look_up(kind, letter, aql, period),
-            seed,
             out,
             at,
         ),
+        Frame::StationNumber(number) => number_reply(s, q, number, out, at),
         Frame::Call(_) => refused_reply(s, Refusal::UnsoundRecord, out, at),
     }
 }
 
 fn call_reply(s: Standing, q: &mut [u32], call: Call, out: &mut [u8], at: usize) -> Standing
     requires { ⌜ at + 33 ≤ length (now out) ⌝ }
-    ensures { λ r. ⌜ Gives (replyWith true (outcome call (s .station) (now (q .entry)))) r (now (q .exit)) (now (out .entry)) at (now (out .exit)) ⌝ }
+    ensures { λ r. ⌜ Gives (replyWith true (sessionOf s (now (q .entry))) (outcome call (s .station) (now (q .entry)))) r (now (q .exit)) (now (out .entry)) at (now (out .exit)) ⌝ }
 {
     let turn = station::outcome(call, s.station, q);
     let answer = turn.answer;
@@ -130,6 +186,7 @@ fn call_reply(s: Standing, q: &mut [u32], call: Call, out: &mut [u8], at: usize)
     put_answer(out, at, answer);
     Standing {
         opened: true,
+        number: s.number,
         station,
     }
 }
