@@ -10,17 +10,14 @@ use lib.Dec.{eqb, ltb, leb}
 use lib.ListN.{length, take, drop, getD, length-drop}
 use lib.Seq.{append-snoc, take-all, take-suc, take-add, split-at, length-take-le, getD-take, getD-drop, drop-drop, paste, take-paste, drop-paste}
 use borrow.Author.Tests.{ne-eqb, ltb-true, ltb-false, leb-true, leb-false}
-use Rattle.rules.specs.Tests.{pick, within}
+use Rattle.rules.specs.Tests.{pick}
 use Rattle.rules.specs.Calls.{answerValues, openCall, outcome}
-use Rattle.rules.specs.Frames.{printed, reply, readingReply, frameReply, answerLine, refusedReply, withNumber, numberReply, seedOf, foundReply, tableReply, readLine}
+use Rattle.rules.specs.Frames.{printed, reply, readingReply, frameReply, numberReply, seedOf, foundReply, tableReply, readLine}
 use Rattle.rules.specs.Tables.{lookUp}
 use Rattle.rules.specs.declared.Found.{Found}
 use Rattle.rules.specs.declared.Found.the-variants as found
 use Rattle.rules.specs.declared.Optional.{Optional}
 use Rattle.rules.specs.declared.Optional.the-variants.{Given, LeftOff}
-use Rattle.rules.specs.declared.Answer.the-variants.{Done}
-use Rattle.rules.specs.declared.Refusal.the-variants.{IllFormed}
-use Rattle.rules.specs.declared.Reply.{Reply}
 use Rattle.rules.specs.declared.Frame.{Frame}
 use Rattle.rules.specs.declared.Frame.the-variants.{Open, OpenTable, StationNumber, Call}
 use Rattle.rules.specs.declared.Reading.{Reading}
@@ -59,12 +56,9 @@ table-length : (s : Session) (seed : Optional) (f : Found) → length (tableRepl
 table-length s (Given seed) f = found-length s seed f
 table-length s LeftOff f = printed-length _
 
-number-length : (s : Session) (number : ℕ) → length (numberReply s number .text) ≡ 33
-number-length s number = go (within 1 number 65535)
-  where
-    go : (b : Bool) → length (pick b (record { session = withNumber number s; text = answerLine Done }) (refusedReply s IllFormed) .text) ≡ 33
-    go true = printed-length _
-    go false = printed-length _
+number-length : (b : Bool) (s : Session) (number : ℕ) → length (numberReply b s number .text) ≡ 33
+number-length true s number = printed-length _
+number-length false s number = printed-length _
 
 frame-length : (b : Bool) (s : Session) (f : Frame) → length (frameReply b s f .text) ≡ 33
 frame-length true s (Open p seed) = printed-length _
@@ -72,7 +66,7 @@ frame-length false s (Open p seed) = printed-length _
 frame-length true s (OpenTable kind letter aql period seed) = printed-length _
 frame-length false s (OpenTable kind letter aql period seed) = table-length s (seedOf seed (s .number)) (lookUp kind letter aql period)
 frame-length true s (StationNumber number) = printed-length _
-frame-length false s (StationNumber number) = number-length s number
+frame-length false s (StationNumber number) = number-length _ s number
 frame-length true s (Call c) = printed-length _
 frame-length false s (Call c) = printed-length _
 

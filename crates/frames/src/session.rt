@@ -15,6 +15,7 @@ use rules::Refusal;
 use rules::Station;
 ghost use mathlib.Core.Path.{_≡_};
 ghost use mathlib.Core.Bool.{true, false};
+ghost use Rattle.rules.specs.Tests.{within};
 ghost use Rattle.rules.specs.Calls.{openCall, outcome};
 ghost use Rattle.rules.specs.Frames.{newSession, answerLine, accepted, openReply, replyWith, numberReply, seedOf, foundReply, tableReply, frameReply, reply};
 ghost use Prim.Native.Nat.{_+_, _≤_};
@@ -92,7 +93,7 @@ fn refused_reply(s: Standing, r: Refusal, out: &mut [u8], at: usize) -> Standing
 // A station number before the open.
 fn number_reply(s: Standing, q: &[u32], number: u32, out: &mut [u8], at: usize) -> Standing
     requires { ⌜ at + 33 ≤ length (now out) ⌝ }
-    ensures { λ r. ⌜ Gives (numberReply (sessionOf s (now (q .entry))) number) r (now (q .entry)) (now (out .entry)) at (now (out .exit)) ⌝ }
+    ensures { λ r. ⌜ Gives (numberReply (within 1 number 65535) (sessionOf s (now (q .entry))) number) r (now (q .entry)) (now (out .entry)) at (now (out .exit)) ⌝ }
 {
     if (number < 1) | (65535 < number) {
         return refused_reply(s, Refusal::IllFormed, out, at);

@@ -20,5 +20,9 @@ returns-4 : tie.Need-returns-4
 unfolding oneWordFrame isWord
 returns-4 c = search (needs, eq-eqb, ne-eqb, lt-ltb, le-ltb)
 
+returns-5 : tie.Need-returns-5
+unfolding oneWordFrame isWord
+returns-5 c = search (needs, eq-eqb, ne-eqb, lt-ltb, le-ltb)
+
 pub one-word-frame-spec : {M : Type 1} → statement M
-one-word-frame-spec = tie.close (tie.spec returns (λ c. search needs) returns-2 (λ c. search needs) returns-3 returns-4)
+one-word-frame-spec = tie.close (tie.spec returns (λ c. search needs) returns-2 (λ c. search needs) returns-3 (λ c. search needs) returns-4 returns-5)

@@ -29,10 +29,6 @@ returns-6 : tie.Need-returns-6
 unfolding tableFrame isWord _and_
 returns-6 c = search (needs, eq-eqb, ne-eqb, lt-ltb, le-ltb)
 
-returns-7 : tie.Need-returns-7
-unfolding tableFrame isWord _and_
-returns-7 c = search (needs, eq-eqb, ne-eqb, lt-ltb, le-ltb)
-
 pub table-frame-spec : {M : Type 1} → statement M
 table-frame-spec =
     tie.close
@@ -42,10 +38,8 @@ table-frame-spec =
     returns-3
     returns-4
     returns-5
-    returns-6
     (λ c. search needs)
     (λ c. search needs)
     (λ c. search needs)
     (λ c. search needs)
-    (λ c. search needs)
-    returns-7)
+    returns-6)
