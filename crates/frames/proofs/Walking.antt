@@ -10,7 +10,7 @@ use lib.Dec.{eqb, ltb, leb}
 use lib.ListN.{length, take, drop, getD, length-drop}
 use lib.Seq.{append-snoc, take-all, take-suc, take-add, split-at, length-take-le, getD-take, getD-drop, drop-drop, paste, take-paste, drop-paste}
 use borrow.Author.Tests.{ne-eqb, ltb-true, ltb-false, leb-true, leb-false}
-use Rattle.rules.specs.Tests.{pick}
+use Rattle.rules.specs.Tests.{pick, within as from-to}
 use Rattle.rules.specs.Calls.{answerValues, openCall, outcome}
 use Rattle.rules.specs.Frames.{printed, reply, readingReply, frameReply, numberReply, seedOf, foundReply, tableReply, readLine}
 use Rattle.rules.specs.Tables.{lookUp}
@@ -66,7 +66,7 @@ frame-length false s (Open p seed) = printed-length _
 frame-length true s (OpenTable kind letter aql period seed) = printed-length _
 frame-length false s (OpenTable kind letter aql period seed) = table-length s (seedOf seed (s .number)) (lookUp kind letter aql period)
 frame-length true s (StationNumber number) = printed-length _
-frame-length false s (StationNumber number) = number-length _ s number
+frame-length false s (StationNumber number) = number-length (from-to 1 number 65535) s number
 frame-length true s (Call c) = printed-length _
 frame-length false s (Call c) = printed-length _
 

@@ -74,9 +74,10 @@ fn open_reply(
     let answer = turn.answer;
     let station = turn.station;
     put_line(out, at, answer_line(answer));
+    let number = s.number;
     Standing {
         opened: accepted(answer),
-        number: s.number,
+        number,
         station,
     }
 }
@@ -95,16 +96,16 @@ fn number_reply(s: Standing, q: &[u32], number: u32, out: &mut [u8], at: usize) 
     requires { ⌜ at + 33 ≤ length (now out) ⌝ }
     ensures { λ r. ⌜ Gives (numberReply (within 1 number 65535) (sessionOf s (now (q .entry))) number) r (now (q .entry)) (now (out .entry)) at (now (out .exit)) ⌝ }
 {
-    if (number < 1) | (65535 < number) {
-        return refused_reply(s, Refusal::IllFormed, out, at);
+    if (1 <= number) & (number <= 65535) {
+        put_answer(out, at, Answer::Done);
+        let station = s.station;
+        return Standing {
+            opened: s.opened,
+            number: Optional::Given(number),
+            station,
+        };
     }
-    put_answer(out, at, Answer::Done);
-    let station = s.station;
-    Standing {
-        opened: s.opened,
-        number: Optional::Given(number),
-        station,
-    }
+    refused_reply(s, Refusal::IllFormed, out, at)
 }
 
 // The seed of a table open: the one that is written, or the station number.
@@ -164,14 +165,11 @@ fn first_reply(s: Standing, q: &mut [u32], frame: Frame, out: &mut [u8], at: usi
             aql,
             period,
             seed,
-        } => table_reply(
-            s,
-            q,
-            seed_of(seed, s.number),
-            tables::look_up(kind, letter, aql, period),
-            out,
-            at,
-        ),
+        } => {
+            let number = s.number;
+            let found = tables::look_up(kind, letter, aql, period);
+            table_reply(s, q, seed_of(seed, number), found, out, at)
+        }
         Frame::StationNumber(number) => number_reply(s, q, number, out, at),
         Frame::Call(_) => refused_reply(s, Refusal::UnsoundRecord, out, at),
     }
@@ -185,9 +183,10 @@ fn call_reply(s: Standing, q: &mut [u32], call: Call, out: &mut [u8], at: usize)
     let answer = turn.answer;
     let station = turn.station;
     put_answer(out, at, answer);
+    let number = s.number;
     Standing {
         opened: true,
-        number: s.number,
+        number,
         station,
     }
 }
