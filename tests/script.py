@@ -42,8 +42,12 @@ class Script:
         """S is i where nothing is said, or 0 for CSP-F."""
         return self.line(words(1, type, n, i, least_S(type, i) if S is None else S, x, N, seed))
 
-    def table(self, type, letter, aql, N=0, seed=None):
+    def table(self, type, letter, aql, N=0, seed=0):
+        """The seed is written out, 0 too; None leaves it off."""
         return self.line(words(8, type, letter, aql, N, *([] if seed is None else [seed])))
+
+    def station_number(self, number):
+        return self.line(words(10, number))
 
     def unit(self, k=None):
         return self.line(words(2, self.station.last + 1 if k is None else k))

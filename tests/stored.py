@@ -1,5 +1,7 @@
 """The stored sessions in words. `tests/record` writes sessions/ from them; the docstring is the line of its README."""
 
+from itertools import permutations
+
 from model import CSP_1, CSP_2, CSP_F, CSP_T, CSP_V
 from script import Script, words
 
@@ -348,9 +350,10 @@ def csp_v_need_i(s):
 # ---- The tables
 
 @session
-def table_v_without_seed(s):
-    """Frame 08: CSP-T, letter G, AQL 2.5, no seed: i 49, n 15, seed 0; the alarm comes at 376 and not before."""
-    s.table(CSP_T, G, 2_500)
+def table_v_with_station_number(s):
+    """Frame 08: CSP-T, letter G, AQL 2.5, no seed but station number 4,660: i 49, n 15; the alarm comes at 376 and not before."""
+    s.station_number(4_660)
+    s.table(CSP_T, G, 2_500, seed=None)
     s.take()
     for _ in range(15):
         s.good(24)
@@ -389,9 +392,10 @@ def table_iii_a_4(s):
 
 
 @session
-def table_iii_a_4_without_seed(s):
-    """Frame 08: CSP-F, letter A, N 500, no seed: i 195, n 2; 195 conforming start sampling."""
-    s.table(CSP_F, A, 40, N=500)
+def table_iii_a_4_with_station_number(s):
+    """Frame 08: CSP-F, letter A, N 500, no seed but station number 12: i 195, n 2; 195 conforming start sampling."""
+    s.station_number(12)
+    s.table(CSP_F, A, 40, N=500, seed=None)
     s.good(194)
     s.take_all()
     s.good()
@@ -1694,6 +1698,296 @@ def lost_none_under_csp_f(s):
     s.take_all()
 
 
+# ---- Station numbers: document 02, W6
+
+# 65,537 is 1 in its low sixteen bits.
+NO_STATION_NUMBERS = (0, 65_536, 65_537, 0x80000000, TOP)
+NOT_0A = [
+    b'0A', b'0A ', b'0A 1', b'0A 0001', b'0A 00000001 00000001', b'0A 00000001 ', b'0A  00000001', b'0A 0000000G', b'0A 0000ffff',
+    b'0a 00000001', b'A 00000001', b'0A00000001', b'0A 000000001', b'0A 00000001\r',
+]
+
+
+def letter_a(s, seed=None):
+    """Letter A, AQL 10.0: n 2, i 5, S 12."""
+    return s.table(CSP_T, A, 10_000, seed=seed)
+
+
+def show_seed(s, units=8):
+    """Sampling, and as many blocks of two as tell the seeds of these sessions apart by their orders."""
+    s.good(s.station.i)
+    s.units(units)
+    s.take_all()
+
+
+@session
+def station_number_least(s):
+    """Station number 1 is taken, and is the seed of a table open without one."""
+    s.station_number(1)
+    letter_a(s)
+    show_seed(s, 30)
+
+
+@session
+def station_number_most(s):
+    """Station number 65,535 is taken, and is the seed of a table open without one."""
+    s.station_number(65_535)
+    letter_a(s)
+    show_seed(s, 30)
+
+
+@session
+def station_number_refused(s):
+    """Station numbers 0 and above 65,535 get 9 and none is kept: after each a table open without seed gets 9, and a call 2."""
+    for number in NO_STATION_NUMBERS:
+        s.station_number(number)
+        letter_a(s)
+        s.take()
+    letter_a(s, seed=0)
+    show_seed(s)
+
+
+@session
+def station_number_ill_formed(s):
+    """Frame 0A with no word, with two, in lower case and otherwise ill-formed gets 9: it gives no number and takes none away."""
+    for line in NOT_0A:
+        s.line(line)
+    letter_a(s)
+    s.station_number(5)
+    for line in NOT_0A:
+        s.line(line)
+    letter_a(s)
+    show_seed(s)
+
+
+@session
+def station_number_after_open(s):
+    """After an open by frame 01 a station number gets 9, in range or not; the station goes on, and its orders are its seed's."""
+    s.open(CSP_1, 2, 2, 3, seed=9)
+    s.tick()
+    for number in (5, 65_535, *NO_STATION_NUMBERS):
+        s.station_number(number)
+    s.tick()
+    s.unit()
+    s.station_number(5)
+    s.result(0)
+    s.good()
+    s.station_number(5)
+    s.units(8)
+    s.take_all()
+
+
+@session
+def station_number_after_table_open(s):
+    """After an open by frame 08 a station number gets 9, in range or not; the orders stay those of the number before the open."""
+    s.station_number(9)
+    letter_a(s)
+    for number in (5, 9, 65_535, *NO_STATION_NUMBERS):
+        s.station_number(number)
+    s.good(5)
+    s.station_number(5)
+    s.units(3)
+    s.station_number(5)
+    letter_a(s)
+    s.units(5)
+    s.take_all()
+
+
+@session
+def station_number_replaced(s):
+    """A later station number replaces the first, be it larger or smaller: the orders are those of the last one."""
+    for number in (40_000, 65_535, 9, 9, 256, 5):
+        s.station_number(number)
+    letter_a(s)
+    show_seed(s)
+
+
+@session
+def station_number_stays_when_refused(s):
+    """A station number that is refused leaves the one before it, which is then the seed."""
+    s.station_number(40_000)
+    for number in NO_STATION_NUMBERS:
+        s.station_number(number)
+    s.line(b'0A')
+    s.line(words(10, 5, 5))
+    letter_a(s)
+    show_seed(s)
+
+
+@session
+def station_number_stays_after_refused_opens(s):
+    """A refused open, by frame 01 or by 08, leaves the station number: an entry that is not there gets 3, the next is opened."""
+    s.station_number(40_000)
+    s.open(CSP_1, 2, 2, 1, seed=5)
+    s.table(CSP_T, A, 40, seed=None)
+    s.table(CSP_T, A, 40, seed=5)
+    s.table(CSP_F, I, 40, N=500, seed=None)
+    s.open(0, 0, 0, seed=0)
+    s.take()
+    letter_a(s)
+    show_seed(s)
+
+
+@session
+def station_number_missing(s):
+    """With neither seed nor station number a table open gets 9, before 3, whether a table has the entry or not; nothing is opened."""
+    for entry in ((CSP_T, A, 10_000), (CSP_F, A, 40, 500)):
+        s.table(*entry, seed=None)
+        s.take()
+    for entry in ((CSP_T, A, 40), (CSP_T, 0, 10_000), (CSP_F, I, 40, 500), (CSP_1, A, 10), (0, 0, 0)):
+        s.table(*entry, seed=None)
+        s.line(words(2, 1))
+        s.table(*entry, seed=0)
+    letter_a(s, seed=0)
+    letter_a(s)
+    show_seed(s)
+
+
+@session
+def station_number_and_a_seed(s):
+    """A seed that is written is the seed, whatever the station number."""
+    s.station_number(40_000)
+    letter_a(s, seed=5)
+    show_seed(s)
+
+
+@session
+def station_number_and_seed_0(s):
+    """A seed of 0 that is written is a seed: the orders are those of 0, and not of the station number."""
+    s.station_number(40_000)
+    letter_a(s, seed=0)
+    show_seed(s)
+
+
+@session
+def station_number_and_frame_01(s):
+    """Frame 01 has its own seed, 0 too, and with a word less it is ill-formed: a station number is none of its words."""
+    s.station_number(40_000)
+    s.line(words(1, CSP_T, 2, 5, 12, 0, 0))
+    s.open(CSP_T, 2, 5, 12, seed=0)
+    show_seed(s)
+
+
+@session
+def station_number_between_refused_opens(s):
+    """Station numbers between refused opens: 9 without one, 3 with one; the last one that was taken is the seed."""
+    s.table(CSP_T, A, 40, seed=None)
+    s.station_number(5)
+    s.table(CSP_T, A, 40, seed=None)
+    s.open(CSP_1, 1, 1)
+    s.station_number(40_000)
+    s.table(CSP_F, A, 40, N=0, seed=None)
+    s.station_number(0)
+    s.table(CSP_F, A, 40, N=0, seed=7)
+    s.take()
+    letter_a(s)
+    show_seed(s)
+
+
+# The number, the seed that 08 may write and that of 01, whose plan is letter A's too: the orders alone tell which opened.
+THREE_FRAMES = {
+    '0A': lambda s, seed: s.station_number(40_000),
+    '08': letter_a,
+    '01': lambda s, seed: s.open(CSP_T, 2, 5, 12, seed=9),
+}
+
+
+def who_opens(order, seed):
+    """Which of the three frames opens: 01 where it comes before 08, or where 08 has neither seed nor number."""
+    comes = order.index
+    if comes('01') < comes('08'):
+        return '01 opens, and what comes after it gets 9'
+    if seed is not None:
+        return '08 opens with its seed, and what comes after it gets 9'
+    if comes('0A') < comes('08'):
+        return '08 opens with the station number, and 01 gets 9'
+    return '08 gets 9, and 01 opens with its own seed'
+
+
+def in_order(order, seed):
+    def write(s):
+        for code in order:
+            THREE_FRAMES[code](s, seed)
+        show_seed(s)
+
+    first, second, third = order
+    way = 'without' if seed is None else 'with'
+    write.__name__ = f'station_number_order_{first}_{second}_{third}_{way}_seed'.lower()
+    write.__doc__ = f'Frame {first}, then {second}, then {third}, where 08 is {way} a seed: {who_opens(order, seed)}.'
+    return session(write)
+
+
+EACH_ORDER = [in_order(order, seed) for order in permutations(THREE_FRAMES) for seed in (None, 5)]
+
+
+def neighbour(s, number):
+    s.station_number(number)
+    s.table(CSP_T, B, 10_000, seed=None)
+    show_seed(s, 36)
+
+
+@session
+def station_number_neighbour_11(s):
+    """Station 11 on letter B, AQL 10.0: the frames of station 12 but for the number, and other places."""
+    neighbour(s, 11)
+
+
+@session
+def station_number_neighbour_12(s):
+    """Station 12 on letter B, AQL 10.0: the frames of station 11 but for the number, and other places."""
+    neighbour(s, 12)
+
+
+@session
+def station_number_torn(s):
+    """Frame 0A torn by a line feed gets 9 twice and gives no number; as a last line without line feed it gets 9."""
+    s.line(b'0A 0000')
+    s.line(b'9C40')
+    letter_a(s)
+    s.line(b'0A')
+    s.line(b' 00009C40')
+    letter_a(s)
+    return b'0A 00009C40'
+
+
+@session
+def station_number_csp_t(s):
+    """Letter A, AQL 10.0, station number 51,966: blocks of 2, 4 and 8, back to screening by a defect, and the draws go on."""
+    s.station_number(51_966)
+    letter_a(s)
+    s.take()
+    s.good(5)
+    s.good(10)
+    s.take_all()
+    s.units(40)
+    s.bad()
+    s.take_all()
+    s.good(5)
+    s.units(9)
+    s.unit(s.station.last + 3)
+    s.result(0)
+    s.good(4)
+    s.take_all()
+    s.units(30)
+    s.take_all()
+
+
+@session
+def station_number_csp_f(s):
+    """Letter B of Table III-A-4, N 400, station number 47,806: i 233, n 3; the blocks of 3 to the end of the period."""
+    s.station_number(47_806)
+    s.table(CSP_F, B, 40, N=400, seed=None)
+    s.take()
+    s.good(233)
+    s.take_all()
+    s.units(60)
+    s.bad()
+    s.take_all()
+    s.units(400 - s.station.last)
+    s.unit(401)
+    s.take_all()
+
+
 # ---- How long the line can go unseen: document 02, W13
 
 @session
@@ -2338,15 +2632,18 @@ def pinned_program(s):
     s.find()
     s.line(b'')
     s.line(b'07\r')
-    # a plan out of range, and entries that no table has; after a refused open a call still gets 2
+    # a plan out of range, and entries that no table has: without seed and station number 9, and with a seed 3; after a refused
+    # open a call still gets 2
     s.open(CSP_1, 2, 2, 1)
     s.open(CSP_F, 2, 2, 2, N=9)
-    for entry in ((CSP_1, A, 10_000), (CSP_T, 0, 10_000), (CSP_T, 12, 10_000), (CSP_T, A, 40), (CSP_T, A, 10_000, 1)):
+    for entry in ((CSP_1, A, 10_000), (CSP_T, 0, 10_000)):
+        s.table(*entry, seed=None)
+    for entry in ((CSP_T, 12, 10_000), (CSP_T, A, 40), (CSP_T, A, 10_000, 1)):
         s.table(*entry)
     for entry in ((CSP_F, I, 40, 500), (CSP_F, A, 400, 500), (CSP_F, A, 40, 0), (CSP_F, A, 40, 1_000_001)):
         s.table(*entry, seed=5)
     s.take()
-    # letter A, AQL 10.0, no seed: n 2, i 5, S 12 and seed 0; then every open gets 9
+    # letter A, AQL 10.0, seed 0: n 2, i 5, S 12; then every open gets 9
     s.table(CSP_T, A, 10_000)
     s.table(CSP_T, A, 10_000)
     s.open(CSP_1, 2, 2, 3, seed=1)
@@ -2400,6 +2697,34 @@ def pinned_table_open(s):
     s.good(6)
     s.units(9)
     s.take_all()
+
+
+@session
+def pinned_station_number(s):
+    """Pinned. Frame 0A: refused and taken, replaced, and left by what is refused; it is the seed of a table open without one."""
+    # neither seed nor number: 9, before 3, and a call still gets 2
+    letter_a(s)
+    s.table(CSP_T, A, 40, seed=None)
+    s.take()
+    # out of range, 1 in the low bits of one; no word, two words; none of them is kept
+    for number in (0, 65_536, 65_537, TOP):
+        s.station_number(number)
+    s.line(b'0A')
+    s.line(words(10, 1, 1))
+    letter_a(s)
+    # the first, and one that replaces it; what is refused leaves it
+    s.station_number(1)
+    s.station_number(65_535)
+    s.station_number(0)
+    s.open(CSP_1, 2, 2, 1)
+    s.table(CSP_T, A, 40, seed=None)
+    s.table(CSP_T, A, 40)
+    # then every 0A gets 9
+    letter_a(s)
+    s.station_number(1)
+    # i is 5, and the orders are those of seed 65,535
+    s.good(5)
+    s.units(8)
 
 
 @session
