@@ -3,7 +3,8 @@
 import random
 
 from model import (
-    CSP_2, CSP_F, CSP_T, CSP_V, LONG, PROGRAM_ROOM, SAMPLING, SCREENING, TABLE_V_AQL, UNIT_LIMIT, refused, sound, written,
+    CSP_2, CSP_F, CSP_T, CSP_V, LONG, MOST_STATIONS, PROGRAM_ROOM, SAMPLING, SCREENING, TABLE_V_AQL, UNIT_LIMIT, refused, sound,
+    written,
 )
 from reached import Watcher, waits
 from script import Script, words
@@ -23,6 +24,9 @@ PROFILES = {
 ALLOWED = ((-1, -1), (-1, -1), (1, 1), (1, 1), (0, 1), (0, -1))
 NOT_ALLOWED = ((-1, 0), (-1, 1), (1, 0), (1, -1))
 SEEDS = (0, 1, 2 ** 31, 2 ** 32 - 1)
+# Station numbers at the ends of their range; those above it have one in their low bits but for 65,536.
+NUMBERS = (1, 2, MOST_STATIONS - 1, MOST_STATIONS)
+NO_NUMBERS = (0, MOST_STATIONS + 1, MOST_STATIONS + 2, 2 ** 31 + 7, 2 ** 32 - 1)
 ODD_NUMBERS = (0, 1, 2, 3, 7, 8, 9, 200, 201, 10_000, UNIT_LIMIT, UNIT_LIMIT + 1, 2 ** 31, 2 ** 32 - 1)
 
 
@@ -59,6 +63,8 @@ class Driver(Script):
         """The session's input."""
         self.prelude()
         self.open_somehow()
+        while self.chance(0.2):
+            self.too_late()
         if self.chance(0.1):
             self.near_the_limit()
         for _ in range(self.random.randrange(100, 400)):
@@ -77,9 +83,13 @@ class Driver(Script):
         return self.random.choice((b'07', b'0', b'02 00000001', b'\r')) if self.chance(0.05) else b''
 
     def prelude(self):
-        """Some sessions try calls and refused opens before they open."""
-        while self.chance(0.3):
-            self.random.choice((self.ill_formed, self.early_call, self.refused_open, self.refused_table))()
+        """Some sessions try calls and refused opens before they open, or a table open that is one with a station number."""
+        turns = (
+            self.ill_formed, self.early_call, self.refused_open, self.refused_table, self.number_somehow,
+            lambda: self.table(*self.entry(), seed=None),
+        )
+        while self.station is None and self.chance(0.3):
+            self.random.choice(turns)()
 
     def turn(self):
         if self.chance(0.02):
@@ -153,7 +163,9 @@ class Driver(Script):
         return self.random.choice(SEEDS) if self.chance(0.2) else self.random.getrandbits(32)
 
     def open_somehow(self):
-        if self.chance(0.15):
+        if self.chance(0.3):
+            self.before_open()
+        if self.chance(0.25):
             self.open_from_table()
         else:
             self.open_plan()
@@ -167,12 +179,36 @@ class Driver(Script):
         N = self.random.choice((self.random.randrange(1, 150), UNIT_LIMIT)) if type == CSP_F else 0
         self.open(type, n, i, S, x, N, self.seed())
 
-    def open_from_table(self):
-        seed = None if self.chance(0.5) else self.seed()
+    def entry(self):
+        """One that a table has."""
         if self.chance(0.5):
-            self.table(CSP_T, self.random.randrange(1, 12), self.random.choice(TABLE_V_AQL[-3:]), 0, seed)
-        else:
-            self.table(CSP_F, self.random.randrange(1, 9), 40, self.random.randrange(1, 80_000), seed)
+            return CSP_T, self.random.randrange(1, 12), self.random.choice(TABLE_V_AQL[-3:]), 0
+        return CSP_F, self.random.randrange(1, 9), 40, self.random.randrange(1, 80_000)
+
+    def open_from_table(self):
+        """Half of all without a seed: where there is no station number yet that gets 9, and then one is given."""
+        entry, seed = self.entry(), self.random.choice((None, None, 0, self.seed()))
+        while self.table(*entry, seed) == refused(9) and self.station is None:
+            self.before_open()
+
+    def before_open(self):
+        """A station number, and what leaves it or takes its place."""
+        self.number_somehow()
+        while self.chance(0.6):
+            self.random.choice((self.number_somehow, self.refused_open, self.refused_table))()
+
+    def too_late(self):
+        """What has its place before an accepted open."""
+        self.random.choice((self.open_plan, self.open_from_table, self.number_somehow))()
+
+    def number_somehow(self):
+        """Mostly a station number, else one out of range or a wrong number of words."""
+        number = self.random.choice((*NUMBERS, *(self.random.randrange(1, MOST_STATIONS) for _ in NUMBERS)))
+        self.line(self.random.choice((
+            *[words(10, number)] * 5, *[words(10, self.random.choice(NO_NUMBERS))] * 3, words(10), words(10, number, number),
+        )))
+        if self.chance(0.1):
+            self.line(self.lines[-1])
 
     def refused_open(self):
         plan = [self.random.choice(ODD_NUMBERS) for _ in range(7)]
@@ -180,7 +216,7 @@ class Driver(Script):
         self.line(words(1, *plan))
 
     def refused_table(self):
-        self.table(*self.random.choices(ODD_NUMBERS, k=3), N=UNIT_LIMIT + 1)
+        self.table(*self.random.choices(ODD_NUMBERS, k=3), N=UNIT_LIMIT + 1, seed=self.random.choice((None, self.seed())))
 
     def early_call(self):
         change = words(9, 1, 2, 1, 1, 0, 0, 1)
@@ -251,7 +287,7 @@ class Driver(Script):
             lambda: self.unit(self.limit() + 1),
             lambda: self.unit(2 ** 32 - 1),
             lambda: self.result(self.random.choice((0, 1, 2, 2 ** 31, 2 ** 32 - 1))),
-            self.open_plan, self.open_from_table, self.refused_open, self.refused_table,
+            self.open_plan, self.open_from_table, self.number_somehow, self.refused_open, self.refused_table,
         ))()
 
     def do_ill_formed(self):
@@ -262,7 +298,7 @@ class Driver(Script):
     def ill_formed(self):
         """A good line with one thing wrong in it, or a line of bytes."""
         plan, table, change = words(1, 1, 2, 3, 4, 0, 0, 0xABCDEF), words(8, 4, 1, 400, 0), words(9, 1, 2, 3, 4, 0, 0, 1)
-        good = self.random.choice((plan, table, change, words(2, 0xA1), words(3, 0xF), words(7)))
+        good = self.random.choice((plan, table, change, words(2, 0xA1), words(3, 0xF), words(7), words(10, 0xA1)))
         at = self.random.randrange(len(good) + 1)
         self.line(self.random.choice((
             good.lower() + b'a',

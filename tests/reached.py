@@ -1,16 +1,18 @@
 """Counts what random sessions reach: a comparison that never came near a rule says nothing about it."""
 
 from collections import Counter, namedtuple
+from itertools import permutations
 from operator import attrgetter
 
 from model import (
-    CHANGE, CHECK, CSP_2, CSP_F, CSP_T, CSP_V, DEFECT, INTERRUPT, LONG, MARKER, MISSED, NO_PLAN, PHASE, PLAN, SAMPLING, SCREENING,
-    SILENCE, START, UNIT_LIMIT, WAITING_FIELDS, read_frame, slot, waiting_plan,
+    CHANGE, CHECK, CSP_2, CSP_F, CSP_T, CSP_V, DEFECT, FRAME, INTERRUPT, LONG, MARKER, MISSED, MOST_STATIONS, NO_PLAN, OPEN, PHASE,
+    PLAN, SAMPLING, SCREENING, SILENCE, START, STATION_NUMBER, TABLE_OPEN, UNIT_LIMIT, WAITING_FIELDS, WORD, block_length,
+    plan_in_range, read_frame, slot, step, table_plan, waiting_plan,
 )
 
 SEEN = (
-    'type', 'n', 'i', 'S', 'x', 'N', 'C', 'phase', 'need', 'run', 'screened', 'unrecalled', 'level', 'place', 'row', 'watch', 'watched',
-    'owed', 'last', 'silent', 'heard', 'told', 'oldest', 'next', 'lost', *WAITING_FIELDS,
+    'type', 'n', 'i', 'S', 'x', 'N', 'C', 'phase', 'need', 'run', 'screened', 'unrecalled', 'level', 'place', 'chosen', 'row', 'watch',
+    'watched', 'owed', 'last', 'silent', 'heard', 'told', 'oldest', 'next', 'lost', *WAITING_FIELDS,
 )
 View = namedtuple('View', SEEN)
 look = attrgetter(*SEEN)
@@ -93,11 +95,32 @@ LOST = (
     'LONG lost, a call that raises nothing', 'LONG lost, a refused call',
 )
 
+# W6. A number is refused in four ways that a mistake may take for a number; what is refused after one leaves it, and another
+# replaces it, as the orders of a table open without seed show. The three frames, each good by itself, come in every order.
+TABLES = {CSP_T: 'Table V', CSP_F: 'Table III-A-4'}
+OUT_OF_RANGE = {0: '0', MOST_STATIONS + 1: '65,536', WORD - 1: 'FFFFFFFF'}
+LOW_BITS = 'in range in its low bits'
+LEFT_BY = ('a refused number', 'an ill-formed 0A', 'a refused 01', 'a refused 08', 'a number before it')
+BEFORE_WORK = {OPEN: '01', TABLE_OPEN: '08', STATION_NUMBER: '0A'}
+STATION_NUMBERS = (
+    'station number 1', 'station number 65,535', 'station number replaced', 'the same station number again',
+    *(f'station number {number}, {who} before' for number in (*OUT_OF_RANGE.values(), LOW_BITS) for who in ('none', 'one')),
+    *(f'station number after {code}, {where}' for code in ('01', '08') for where in ('in range', 'out of range')),
+    'station number with 0 words', 'station number with 2 words',
+    *(f'neither seed nor station number, entry {where}' for where in ('there', 'absent')),
+    *(f'absent entry {seed}' for seed in ('with seed', 'with the station number')),
+    *(f'{table} {seed}' for table in TABLES.values() for seed in ('with seed', 'with seed over a station number', 'with the station number')),
+    'seed 0 over a station number', '01 over a station number',
+    *(f'seed is the station number after {what}' for what in LEFT_BY),
+    *(f'no seed after an open, {who} station number' for who in ('a', 'no')),
+    'block drawn from the station number', 'place that seed 0 would not choose',
+    *(f'{", ".join(order)}: 08 {seed}' for order in permutations(BEFORE_WORK.values()) for seed in ('with seed', 'without seed')),
+)
+
 # What a run must reach at least once. Refusal 1 needs another memory and 10 eight million events: neither is a
 # matter of random frames, and other parts reach both.
 GOALS = (
     *(f'opened {plan}' for plan in PLANS.values()),
-    'Table V with seed', 'Table V without seed', 'Table III-A-4 with seed', 'Table III-A-4 without seed',
     *(f'refusal {number}' for number in (*range(2, 10), 11)),
     'ill-formed frame', 'open after an open', 'result neither 0 nor 1',
     *(f'{plan} sampling' for plan in PLANS.values()),
@@ -131,7 +154,7 @@ GOALS = (
     'jump to the new i after i good samples', 'interrupt to the new i after i good samples',
     *(f'not taken up: {turn}' for turn in NO_PLACES),
     'three events in one call', 'three drops in one call',
-    *LOST,
+    *LOST, *STATION_NUMBERS,
 )
 
 
@@ -231,6 +254,96 @@ class Raised:
         self.lost.append(lost)
 
 
+class Numbers:
+    """The station number of a session: what gives it, what leaves it, and which seed an open takes."""
+
+    def __init__(self):
+        self.number = None
+        self.left_by = set()  # what came since it was taken, and left it
+        self.opened_by = ''   # the code of the accepted open
+        self.zero = None      # where the number is the seed: what seed 0 would be after as many draws
+        self.came = []        # the three codes, in the order in which they first came with good words
+        self.seeded = ''      # how the first 08 of them came
+
+    def hear(self, frame, refusal):
+        code, words = frame
+        if code not in BEFORE_WORK:
+            return
+        calls = {OPEN: self.open, TABLE_OPEN: self.table_open, STATION_NUMBER: self.station_number}
+        yield from calls[code](words, refusal)
+        yield from self.in_order(code, words)
+        if code != STATION_NUMBER and not refusal:
+            self.opened_by = BEFORE_WORK[code]
+
+    def ill_formed(self, text):
+        if text.startswith(b'0A') and FRAME.fullmatch(text):
+            self.left_by.add('an ill-formed 0A')
+            yield f'station number with {text.count(b" ")} words'
+
+    def station_number(self, words, refusal):
+        number, in_range = words[0], 1 <= words[0] <= MOST_STATIONS
+        if self.opened_by:
+            yield f'station number after {self.opened_by}, {"in" if in_range else "out of"} range'
+        elif refusal:
+            self.left_by.add('a refused number')
+            yield f'station number {OUT_OF_RANGE.get(number, LOW_BITS)}, {"one" if self.number else "none"} before'
+        else:
+            yield from self.taken(number)
+
+    def taken(self, number):
+        if number in (1, MOST_STATIONS):
+            yield f'station number {number:,}'
+        if self.number:
+            yield 'the same station number again' if number == self.number else 'station number replaced'
+        self.left_by = {'a number before it'} if self.number not in (None, number) else set()
+        self.number = number
+
+    def table_open(self, words, refusal):
+        seedless = len(words) == 4
+        if self.opened_by:
+            yield from [f'no seed after an open, {"a" if self.number else "no"} station number'] * seedless
+        elif refusal == 9:
+            yield f'neither seed nor station number, entry {"there" if table_plan(*words) else "absent"}'
+        elif refusal:
+            self.left_by.add('a refused 08')
+            yield f'absent entry {"with the station number" if seedless else "with seed"}'
+        elif seedless:
+            self.zero = 0
+            yield f'{TABLES[words[0]]} with the station number'
+            yield from (f'seed is the station number after {what}' for what in self.left_by)
+        else:
+            yield f'{TABLES[words[0]]} with seed{" over a station number" if self.number else ""}'
+            yield from ['seed 0 over a station number'] * (self.number is not None and words[4] == 0)
+
+    def open(self, words, refusal):
+        if refusal:
+            self.left_by.add('a refused 01')
+        elif self.number:
+            yield '01 over a station number'
+
+    def in_order(self, code, words):
+        good = {
+            OPEN: lambda: plan_in_range(*words[:6]), TABLE_OPEN: lambda: table_plan(*words[:4]),
+            STATION_NUMBER: lambda: 1 <= words[0] <= MOST_STATIONS,
+        }
+        if BEFORE_WORK[code] in self.came or not good[code]():
+            return
+        self.came.append(BEFORE_WORK[code])
+        if code == TABLE_OPEN:
+            self.seeded = 'with seed' if len(words) == 5 else 'without seed'
+        if len(self.came) == len(BEFORE_WORK):
+            yield f'{", ".join(self.came)}: 08 {self.seeded}'
+
+    def drawn(self, before, after):
+        """A block's first unit, where the number is the seed."""
+        if self.zero is None:
+            return
+        self.zero = step(self.zero)
+        yield 'block drawn from the station number'
+        if after.chosen != self.zero * block_length(before) // WORD:
+            yield 'place that seed 0 would not choose'
+
+
 class Watcher:
     """Looks at the record before and after each frame."""
 
@@ -240,9 +353,10 @@ class Watcher:
         self.old_S = 0
         self.finds = Finds()
         self.raised = Raised()
+        self.numbers = Numbers()
         self.calls = {
-            1: self.opened, 2: self.unit, 3: self.result, 4: self.interrupt, 5: self.find, 6: self.tick, 7: self.take,
-            8: self.opened, CHANGE: self.changed,
+            OPEN: self.opened, 2: self.unit, 3: self.result, 4: self.interrupt, 5: self.find, 6: self.tick, 7: self.take,
+            TABLE_OPEN: self.opened, CHANGE: self.changed,
         }
 
     def view(self, station):
@@ -258,16 +372,18 @@ class Watcher:
             self.reach(f'refusal {refusal}', *(['LONG lost, a refused call'] if before and before.lost else []))
         if frame is None:
             self.ill_formed(text)
-        elif refusal:
+            return
+        self.reach(*self.numbers.hear(frame, refusal))
+        if refusal:
             self.refused(frame, before, refusal)
-        else:
+        elif frame[0] != STATION_NUMBER:
             self.raised.hear(station, queue)
             self.calls[frame[0]](frame, before, answer, self.view(station))
             if before:
                 self.drops(before, self.view(station))
 
     def ill_formed(self, text):
-        self.reach('ill-formed frame')
+        self.reach('ill-formed frame', *self.numbers.ill_formed(text))
         if text.startswith(b'%02X' % CHANGE) and read_frame(text[:-8] + b'%08X' % 0):
             self.reach('demand neither 0 nor 1')
 
@@ -275,7 +391,7 @@ class Watcher:
         code = frame[0]
         if code == CHANGE:
             self.refused_change(frame, before, refusal)
-        if code in (1, 8) and before:
+        if code in (OPEN, TABLE_OPEN) and before:
             self.reach('open after an open')
         if code == 3 and refusal == 9:
             self.reach('result neither 0 nor 1')
@@ -298,15 +414,13 @@ class Watcher:
     # ---- Accepted calls
 
     def opened(self, frame, before, answer, after):
-        code, words = frame
         self.reach(f'opened {PLANS[after.type]}')
-        if code == 8:
-            table = 'Table V' if after.type == CSP_T else 'Table III-A-4'
-            self.reach(f'{table} {"with" if len(words) == 5 else "without"} seed')
 
     def unit(self, frame, before, answer, after):
         if after.last == before.last + 1:
             self.no_place(before, 'unit in sampling' if before.phase == SAMPLING else 'unit in screening')
+            if before.phase == SAMPLING and before.place == 0:
+                self.reach(*self.numbers.drawn(before, after))
             return
         self.reach('jump in screening' if before.phase == SCREENING else 'jump in sampling')
         if before.last == 0:

@@ -10,7 +10,8 @@ order. It keeps the events raised too, and no queue: what request W4 says of a m
 from collections import Counter, namedtuple
 
 from model import (
-    CHANGE, CHECK, CSP_2, CSP_T, CSP_V, DEFECT, INTERRUPT, LONG, MARKER, MISSED, PHASE, PLAN, SILENCE, START, table_plan,
+    CHANGE, CHECK, CSP_2, CSP_T, CSP_V, DEFECT, INTERRUPT, LONG, MARKER, MISSED, PHASE, PLAN, SILENCE, START, STATION_NUMBER,
+    table_plan,
 )
 from reached import KINDS, PLANS
 
@@ -82,7 +83,7 @@ class Reading:
         self.raised, self.told, self.left = [], 0, set()
         self.calls = {
             1: self.opened, UNIT: self.unit, 3: self.result, 4: self.interrupt, FIND: self.find, 6: self.tick, 7: self.take,
-            8: self.opened_from_table, CHANGE: self.changed,
+            8: self.opened_from_table, CHANGE: self.changed, STATION_NUMBER: self.numbered,
         }
 
     def hold(self, good, what):
@@ -118,6 +119,10 @@ class Reading:
 
     def opened_from_table(self, words, answer):
         self.opened(table_plan(*words[:4]), answer)
+
+    def numbered(self, words, answer):
+        """A station number is a seed at most, and a seed is no matter of this reading; it comes before the open."""
+        self.hold(self.plan is None, 'a station number is taken after an open')
 
     def unit(self, words, answer):
         k, order = words[0], answer[4]
