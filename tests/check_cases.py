@@ -1,5 +1,5 @@
 """The model against the documents' own numbers: document 01's example, its nine cases and what it says of the tables, and
-the sentences of document 02 on a change of plan, on a check find and on what a gap marker has lost.
+the sentences of document 02 on a change of plan, on a check find, on what a gap marker has lost and on a station number.
 
 Every other part compares with the model, so the model must have been held to the document first.
 """
@@ -36,13 +36,14 @@ def check(report, pair, options):
     for number, case in enumerate(cases, 1):
         for at, holds in enumerate(case(), 1):
             report.check(holds, f'the model breaks document 01\'s case {number}, at its check {at}')
-    for request, requested in (('W1', CHANGES), ('W2', FINDS), ('W4', LOSSES)):
+    for request, requested in (('W1', CHANGES), ('W2', FINDS), ('W4', LOSSES), ('W6', NUMBERS)):
         for case in requested:
             for at, holds in enumerate(case(), 1):
                 report.check(holds, f'the model breaks {request} in {case.__name__}, at its check {at}')
     for law, holds in table_laws().items():
         report.check(holds, f'the model\'s tables: {law}')
-    requests = f'{len(CHANGES)} changes of plan, {len(FINDS)} laws of a find, {len(LOSSES)} of what a marker has lost'
+    laws = f'{len(FINDS)} laws of a find, {len(LOSSES)} of what a marker has lost, {len(NUMBERS)} of a station number'
+    requests = f'{len(CHANGES)} changes of plan, {laws}'
     return f'the example, {len(cases)} cases, {requests} and {len(table_laws())} laws of the tables'
 
 
@@ -436,6 +437,91 @@ def at_most_the_gap():
 
 LOSSES = (
     marker_owns_up, counted_where_dropped, neither_told_nor_held, two_of_three, kind_in_memory, no_call_else, at_most_the_gap,
+)
+
+
+# ---- W6: station numbers
+
+def without_seed(script, *entry):
+    return script.table(*(entry or (CSP_T, 1, 10_000)), seed=None)
+
+
+def numbered(*given):
+    script = Script()
+    for number in given:
+        script.station_number(number)
+    return script
+
+
+def number_is_the_seed():
+    """From 1 to 65,535, and the last one that was given; the answer is zeros."""
+    for given in ((1,), (65_535,), (7, 8), (8, 7), (7, 7), (1, 65_535, 256)):
+        script = numbered(*given)
+        yield set(script.answers) == {DONE}
+        yield without_seed(script) == DONE and script.station.s == given[-1]
+
+
+def number_out_of_range():
+    """9, and it is neither kept, nor cut to sixteen bits, nor does it take away the one before."""
+    for number in (0, 65_536, 65_537, 2 ** 31 + 7, 2 ** 32 - 1):
+        script = numbered(number)
+        yield script.answers == [refused(9)] and without_seed(script) == refused(9)
+        script = numbered(7, number)
+        yield script.answers[-1] == refused(9) and without_seed(script) == DONE and script.station.s == 7
+
+
+def nine_before_three():
+    """A table open with neither seed nor station number gets 9, whatever its entry; with one of them an absent entry gets 3."""
+    for entry, refusal in (((CSP_T, 1, 10_000), 0), ((CSP_T, 12, 10_000), 3), ((CSP_F, 1, 40, 0), 3), ((CSP_1, 1, 400), 3)):
+        script = Script()
+        yield without_seed(script, *entry) == refused(9) and script.station is None
+        yield script.table(*entry, seed=0) == refused(refusal)
+        yield without_seed(numbered(7), *entry) == refused(refusal)
+
+
+def stays_after_refused_opens():
+    script = numbered(7)
+    yield script.open(CSP_1, 1, 1) == refused(3) == script.table(CSP_T, 12, 400, seed=9) == without_seed(script, CSP_T, 12, 400)
+    yield without_seed(script) == DONE and script.station.s == 7
+
+
+def written_seed_wins():
+    """0 is a seed too; and frame 01 has its own."""
+    for seed in (0, 9):
+        script = numbered(7)
+        yield script.table(CSP_T, 1, 10_000, seed=seed) == DONE and script.station.s == seed
+        script = numbered(7)
+        yield script.open(CSP_1, 2, 2, seed=seed) == DONE and script.station.s == seed
+
+
+def number_after_an_open():
+    """9, in range or not, and no record and no queue is touched."""
+    for script in (opened(CSP_1, 2, 2), letter_a(), numbered(7)):
+        if script.station is None:
+            without_seed(script)
+        before = script.station.words(), list(script.program.queue)
+        for number in (0, 1, 65_535, 65_536):
+            yield script.station_number(number) == refused(9) == without_seed(script)
+        yield (script.station.words(), script.program.queue) == before
+
+
+def two_neighbours():
+    """The same frames but for the number: the places differ, though twelve stations with seed 0 have the same ones."""
+    orders = []
+    for number in (7, 8):
+        script = numbered(number)
+        without_seed(script)
+        script.good(5)
+        orders.append([])
+        while script.station.last < 13:
+            orders[-1].append(script.unit()[4])
+            script.result(0)
+    yield orders[0] != orders[1]
+
+
+NUMBERS = (
+    number_is_the_seed, number_out_of_range, nine_before_three, stays_after_refused_opens, written_seed_wins, number_after_an_open,
+    two_neighbours,
 )
 
 

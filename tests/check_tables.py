@@ -1,4 +1,5 @@
-"""Every cell of both tables, through frame 08: i by START, S by the alarm, n by the orders, N by the limit of units."""
+"""Every cell of both tables, through frame 08: i by START, S by the alarm, n by the orders, N by the limit of units; and the
+seed by the orders too, be it written or a station number."""
 
 import random
 
@@ -14,15 +15,17 @@ def check(report, pair, options):
     for name, script in sessions:
         text = script.text()
         report.agreed(name, text, {'model': script.expected(), **programs.outputs(jobs, text)})
-    absent(report, jobs, options)
-    return f'{len(sessions)} entries of the two tables by their i, n and S or N; {ABSENT:,} entries that are not there'
+    for number in (None, 5_000):
+        absent(report, jobs, options, number)
+    return f'{len(sessions)} entries of the two tables by their i, n and S or N; {2 * ABSENT:,} entries that are not there'
 
 
 def table_v():
     for letter, row in enumerate(TABLE_V, 1):
         for aql in TABLE_V_AQL:
             script = Script()
-            script.table(CSP_T, letter, aql)
+            script.station_number(5_000 * letter + aql)
+            script.table(CSP_T, letter, aql, seed=None)
             to_the_alarm(script)
             to_sampling(script)
             yield f'table-v-{letter}-{aql}', script
@@ -51,13 +54,14 @@ def to_sampling(script):
 
 
 def table_iii_a_4():
-    """The first and the last period of each row."""
+    """The first period of each row with a seed that is written, and the last with a station number."""
     first = 1
     for last, cells in TABLE_III_A_4:
         for letter in range(1, len(cells) + 1):
-            for N in (first, last):
+            for N, seed in ((first, letter), (last, None)):
                 script = Script()
-                script.table(CSP_F, letter, 40, N, seed=letter)
+                script.station_number(5_000 * letter)
+                script.table(CSP_F, letter, 40, N, seed)
                 to_the_period_end(script)
                 yield f'table-iii-a-4-{letter}-{N}', script
         first = last + 1
@@ -74,16 +78,19 @@ def to_the_period_end(script):
     script.take_all()
 
 
-ABSENT = 2_000
+ABSENT = 1_000
 
 
-def absent(report, jobs, options):
-    """Entries that no table has, many to a session: a refused open leaves the next one free."""
-    chosen = random.Random(f'{options.seed}-absent')
+def absent(report, jobs, options, number):
+    """Entries that no table has, many to a session: a refused open leaves the next one free, and the station number as it is."""
+    chosen = random.Random(f'{options.seed}-absent-{number}')
     near = (*range(13), 39, 40, 41, 399, 400, 500, 650, 10_000, 10_001, 70_000, 1_000_000, 1_000_001, 2 ** 32 - 1)
     script = Script()
-    while len(script.lines) < ABSENT:
+    if number:
+        script.station_number(number)
+    while len(script.lines) < ABSENT + bool(number):
         entry = [chosen.choice((3, 4, chosen.choice(near))), *(chosen.choice(near) for _ in range(3))]
         if model.table_plan(*entry) is None:
             script.table(*entry, seed=chosen.choice((None, 0, 7)))
-    report.agreed('table-absent-entries', script.text(), {'model': script.expected(), **programs.outputs(jobs, script.text())})
+    name, text = f'table-absent-entries-{number}', script.text()
+    report.agreed(name, text, {'model': script.expected(), **programs.outputs(jobs, text)})
