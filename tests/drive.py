@@ -163,7 +163,7 @@ class Driver(Script):
         return self.random.choice(SEEDS) if self.chance(0.2) else self.random.getrandbits(32)
 
     def open_somehow(self):
-        if self.chance(0.3):
+        if self.chance(0.5):
             self.before_open()
         if self.chance(0.25):
             self.open_from_table()
@@ -180,8 +180,8 @@ class Driver(Script):
         self.open(type, n, i, S, x, N, self.seed())
 
     def entry(self):
-        """One that a table has."""
-        if self.chance(0.5):
+        """One that a table has; those of Table III-A-4 seldom come to sampling."""
+        if self.chance(0.65):
             return CSP_T, self.random.randrange(1, 12), self.random.choice(TABLE_V_AQL[-3:]), 0
         return CSP_F, self.random.randrange(1, 9), 40, self.random.randrange(1, 80_000)
 
