@@ -7,12 +7,14 @@ enum {
     QUEUE_ROOM = 8,
     LINE_MAX_CHARS = 80,
     FRAME_WORDS = 7,
+    STATION_NUMBER_MAX = 65535,
     ANSWER_CHARS = 33,
     CHUNK = 1 << 16
 };
 
 enum code {
-    OPEN = 1, UNIT, RESULT, STOP, FIND, TICK, TAKE, OPEN_TABLE, CHANGE, CODES
+    OPEN = 1, UNIT, RESULT, STOP, FIND, TICK, TAKE, OPEN_TABLE, CHANGE,
+    STATION_NUMBER, CODES
 };
 
 struct frame {
@@ -23,16 +25,17 @@ struct frame {
 struct recorder {
     struct station station;
     uint32_t queue[QUEUE_ROOM * 3];
+    uint32_t station_number;    /* 0: none was given */
     int open;
 };
 
-static const uint8_t words_of[CODES] = { 0, 7, 1, 1, 0, 0, 0, 0, 5, 7 };
+static const uint8_t words_of[CODES] = { 0, 7, 1, 1, 0, 0, 0, 0, 5, 7, 1 };
 
 static struct recorder recorder;
 static char input[LINE_MAX_CHARS + CHUNK];
 static char output[(size_t)ANSWER_CHARS * CHUNK];
 
-/* The seed of a table open may be left off; it is then 0. */
+/* The seed of a table open may be left off. */
 static int count_fits(uint32_t code, size_t count)
 {
     return count == words_of[code] || (code == OPEN_TABLE && count == 4);
@@ -63,30 +66,50 @@ static struct memory queue_of(struct recorder *r)
     return (struct memory){ r->queue, QUEUE_ROOM * 3 };
 }
 
-static struct answer open_plan(struct recorder *r, const struct plan *plan,
-                               uint32_t seed)
+static struct answer refuse(uint32_t number)
 {
-    struct answer a = station_open(&r->station, queue_of(r), plan, seed);
+    return (struct answer){ .refusal = number };
+}
 
-    r->open = a.refusal == DONE;
-    return a;
+/* Document 02, W6: a number out of range leaves the one given before. */
+static struct answer give_number(struct recorder *r, uint32_t number)
+{
+    if (number < 1 || number > STATION_NUMBER_MAX)
+        return refuse(ILL_FORMED);
+    r->station_number = number;
+    return (struct answer){ .refusal = DONE };
 }
 
 static struct answer open_given(struct recorder *r, const uint32_t *w)
 {
     struct plan plan = { w[0], w[1], w[2], w[3], w[4], w[5] };
 
-    return open_plan(r, &plan, w[6]);
+    return station_open(&r->station, queue_of(r), &plan, w[6]);
 }
 
+/* Document 02, W6: a seed left off is the station number; 9 for having neither
+   comes before 3. A 0 that is written is a seed like any other. */
 static struct answer open_table(struct recorder *r, const struct frame *f)
 {
     const uint32_t *w = f->words;
+    int written = f->count == 5;
     struct plan plan;
 
+    if (!written && r->station_number == 0)
+        return refuse(ILL_FORMED);
     if (!table_plan(w[0], w[1], w[2], w[3], &plan))
-        return (struct answer){ .refusal = BAD_PLAN };
-    return open_plan(r, &plan, f->count == 5 ? w[4] : 0);
+        return refuse(BAD_PLAN);
+    return station_open(&r->station, queue_of(r), &plan,
+                        written ? w[4] : r->station_number);
+}
+
+static struct answer open_station(struct recorder *r, const struct frame *f)
+{
+    struct answer a = f->code == OPEN ? open_given(r, f->words)
+                                      : open_table(r, f);
+
+    r->open = a.refusal == DONE;
+    return a;
 }
 
 static struct answer change(struct recorder *r, const uint32_t *w)
@@ -114,17 +137,16 @@ static struct answer call(struct recorder *r, const struct frame *f)
 
 static struct answer answer_frame(struct recorder *r, const struct frame *f)
 {
+    int gives = f->code == STATION_NUMBER;
     int opens = f->code == OPEN || f->code == OPEN_TABLE;
 
-    if (opens && r->open)
-        return (struct answer){ .refusal = ILL_FORMED };
-    if (!opens && !r->open)
-        return (struct answer){ .refusal = BAD_RECORD };
-    if (f->code == OPEN)
-        return open_given(r, f->words);
-    if (f->code == OPEN_TABLE)
-        return open_table(r, f);
-    return call(r, f);
+    if ((gives || opens) && r->open)
+        return refuse(ILL_FORMED);
+    if (gives)
+        return give_number(r, f->words[0]);
+    if (opens)
+        return open_station(r, f);
+    return r->open ? call(r, f) : refuse(BAD_RECORD);
 }
 
 static char *print_answer(char *to, const struct answer *a)
@@ -144,7 +166,7 @@ static char *print_answer(char *to, const struct answer *a)
 
 static char *print_ill_formed(char *to)
 {
-    struct answer a = { .refusal = ILL_FORMED };
+    struct answer a = refuse(ILL_FORMED);
 
     return print_answer(to, &a);
 }
