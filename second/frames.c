@@ -1,5 +1,6 @@
 /* The program of "Frames": a frame a line in, an answer a line out. */
 #include "jobs.h"
+#include "mistake.h"
 #include "station.h"
 #include "wire.h"
 
@@ -74,8 +75,13 @@ static struct answer refuse(uint32_t number)
 /* Document 02, W6: a number out of range leaves the one given before. */
 static struct answer give_number(struct recorder *r, uint32_t number)
 {
-    if (number < 1 || number > STATION_NUMBER_MAX)
+    if (MISTAKE == 30)
+        number &= 0xFFFF;
+    if (number < 1 || number > STATION_NUMBER_MAX) {
+        if (MISTAKE == 26)
+            r->station_number = 0;
         return refuse(ILL_FORMED);
+    }
     r->station_number = number;
     return (struct answer){ .refusal = DONE };
 }
@@ -87,20 +93,34 @@ static struct answer open_given(struct recorder *r, const uint32_t *w)
     return station_open(&r->station, queue_of(r), &plan, w[6]);
 }
 
-/* Document 02, W6: a seed left off is the station number; 9 for having neither
-   comes before 3. A 0 that is written is a seed like any other. */
+/* A 0 that is written is a seed like any other. */
+static int seed_written(const struct frame *f)
+{
+    return f->count == 5 && (MISTAKE != 31 || f->words[4] != 0);
+}
+
+/* Document 02, W6: a seed left off is the station number. */
+static uint32_t table_seed(const struct recorder *r, const struct frame *f)
+{
+    if (MISTAKE == 29 && r->station_number != 0)
+        return r->station_number;
+    return seed_written(f) ? f->words[4] : r->station_number;
+}
+
+/* Document 02, W6: 9 for neither seed nor station number comes before 3. */
 static struct answer open_table(struct recorder *r, const struct frame *f)
 {
     const uint32_t *w = f->words;
-    int written = f->count == 5;
     struct plan plan;
+    int found = table_plan(w[0], w[1], w[2], w[3], &plan);
 
-    if (!written && r->station_number == 0)
-        return refuse(ILL_FORMED);
-    if (!table_plan(w[0], w[1], w[2], w[3], &plan))
+    if (MISTAKE == 28 && !found)
         return refuse(BAD_PLAN);
-    return station_open(&r->station, queue_of(r), &plan,
-                        written ? w[4] : r->station_number);
+    if (MISTAKE != 32 && !seed_written(f) && r->station_number == 0)
+        return refuse(ILL_FORMED);
+    if (!found)
+        return refuse(BAD_PLAN);
+    return station_open(&r->station, queue_of(r), &plan, table_seed(r, f));
 }
 
 static struct answer open_station(struct recorder *r, const struct frame *f)
@@ -109,6 +129,8 @@ static struct answer open_station(struct recorder *r, const struct frame *f)
                                       : open_table(r, f);
 
     r->open = a.refusal == DONE;
+    if (MISTAKE == 27 && !r->open)
+        r->station_number = 0;
     return a;
 }
 
@@ -140,7 +162,7 @@ static struct answer answer_frame(struct recorder *r, const struct frame *f)
     int gives = f->code == STATION_NUMBER;
     int opens = f->code == OPEN || f->code == OPEN_TABLE;
 
-    if ((gives || opens) && r->open)
+    if ((opens || (gives && MISTAKE != 33)) && r->open)
         return refuse(ILL_FORMED);
     if (gives)
         return give_number(r, f->words[0]);
