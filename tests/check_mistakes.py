@@ -19,6 +19,9 @@ AGREED = 0.75
 # Refusal 10 comes after eight million events, and no history makes the records that 24 and 25 judge otherwise: these show
 # in calls alone.
 IN_CALLS_ALONE = (9, 24, 25)
+# W6's: a station number is the session's and no part of a record, and the library's open always has a seed. No call may
+# be answered otherwise.
+IN_SESSIONS_ALONE = range(26, 34)
 
 
 def check(report, pair, options):
@@ -33,7 +36,10 @@ def check(report, pair, options):
         for name, differing, tried in (('stored sessions', by_stored, stored), ('calls', by_calls, calls)):
             does_its_job = len(tried) - len(differing) >= AGREED * len(tried) > 0
             report.check(does_its_job, f'mistake {number} shows in {len(differing)} of {len(tried)} {name}: it is no station')
-        report.check(by_calls, f'no call of the probe catches mistake {number}')
+        if number in IN_SESSIONS_ALONE:
+            report.check(not by_calls, f'mistake {number} shows in {len(by_calls)} calls of the probe, and is one of frames alone')
+        else:
+            report.check(by_calls, f'no call of the probe catches mistake {number}')
         if number not in IN_CALLS_ALONE:
             report.check(by_stored, f'no stored session catches mistake {number}')
             report.check(by_random, f'no random session catches mistake {number}')
