@@ -117,11 +117,11 @@ def takes(frames):
 # ---- Lines that are refused
 
 def before_open(frames):
-    """Every call before an open (2), and opens out of range or of no table entry (3)."""
+    """A station number, every call before an open (2), and opens out of range or of no table entry (3), one without a seed."""
     bad = (0, 2, 1, 1, 0, 0), (1, 1, 1, 1, 0, 0), (1, 2, 0, 1, 0, 0), (1, 2, 2, 1, 0, 0), (1, 2, 1, 1, 1, 0), (3, 2, 1, 0, 0, 0)
     calls = words(2, 1), words(3, 0), words(4), words(5), words(6), words(7), words(9, CSP_1, 2, 1, 1, 0, 0, 0)
     opens = [words(1, *plan, 0) for plan in bad] + [words(8, CSP_T, 12, 400, 0), words(8, CSP_F, 9, 40, 1, 0)]
-    return turns(words(7), [*calls, *opens], frames)
+    return turns(words(10, 1), [*calls, *opens], frames)
 
 
 def refused(frames):
@@ -144,7 +144,7 @@ def ill_formed(frames):
     unit, plan = words(2, 0xA1), words(1, CSP_1, 2, 1, 1, 0, 0, 0)
     digits = unit.lower(), b'02 0000000G', b'02 0000000:', b'02\t00000001', b'02 0000\x00\xff01', b'0G', plan[:-1] + b'/'
     lengths = b'', b'0', b'02', b'02 0000001', b'02 000000001', b'07 ', b'07\r', b'06 00000001', plan[:-9], plan + b' 00000000'
-    codes = b'00', b'0A', b'FF', b'17', words(9, CSP_1, 2, 1, 1, 0, 0, 2)
+    codes = b'00', b'0B', b'FF', b'17', words(9, CSP_1, 2, 1, 1, 0, 0, 2)
     long = b'7' * 81, plan + b' ' * 20, unit * 20
     return turns(plan, [*digits, *lengths, *codes, *long], frames)
 
