@@ -3,10 +3,11 @@
 import re
 
 from lib.words import (
-    LEAST_N, MOST_N, NO_CHANGE, NO_ENTRY, NO_PLAN, NO_RESULT, NOT_OPEN, REFUSALS, SECOND_OPEN, counted, quoted, span,
+    LEAST_N, MOST_N, MOST_STATION, NO_CHANGE, NO_ENTRY, NO_NUMBER, NO_PLAN, NO_RESULT, NO_SEED, NOT_OPEN, REFUSALS, SECOND_OPEN,
+    TOO_LATE, counted, quoted, span,
 )
 
-OPEN, UNIT, RESULT, INTERRUPTED, FIND, TICK, TAKE, TABLE, CHANGE = range(1, 10)
+OPEN, UNIT, RESULT, INTERRUPTED, FIND, TICK, TAKE, TABLE, CHANGE, STATION = range(1, 11)
 NO_FRAME = 0
 FRAME = re.compile(rb'[0-9A-F]{2}(?: [0-9A-F]{8})*')
 LONGEST_LINE = 80
@@ -15,10 +16,12 @@ MOST_CLEARANCE = 10_000
 MOST_SCREENED = 100_000
 WORDS = {
     OPEN: (7,), UNIT: (1,), RESULT: (1,), INTERRUPTED: (0,), FIND: (0,), TICK: (0,), TAKE: (0,), TABLE: (4, 5), CHANGE: (7,),
+    STATION: (1,),
 }
 NAMES = {
     NO_FRAME: 'ill-formed', OPEN: 'open', UNIT: 'unit', RESULT: 'result', INTERRUPTED: 'interrupt', FIND: 'check find',
     TICK: 'tick', TAKE: 'take', TABLE: 'open from table', CHANGE: 'change',
+    STATION: 'numbering',  # not 'station number', which a count behind it would seem to be
 }
 TYPES = {1: 'CSP-1', 2: 'CSP-2', 3: 'CSP-F', 4: 'CSP-T', 5: 'CSP-V'}
 LETTERS = 'ABCDEFGHIJK'
@@ -37,6 +40,7 @@ REFUSED = {
     TICK: {2: NOT_OPEN, 10: ''},
     TAKE: {2: NOT_OPEN},
     CHANGE: {2: NOT_OPEN, 3: NO_PLAN, 4: '', 10: '', 11: NO_CHANGE},
+    STATION: {9: TOO_LATE},
 }
 
 
@@ -88,12 +92,14 @@ def change_asked(*words):
     return f'change {"on demand " if demanded else ""}to {plan(*numbers)}'
 
 
-def table_entry(type, letter, aql, N, seed=0):
+def table_entry(type, letter, aql, N, *seed):
+    """The entry that is asked for, and the seed where it is written out."""
     name = LETTERS[letter - 1] if 1 <= letter <= len(LETTERS) else f'{letter:,}'
     percent = f'{aql // 1000:,}.{aql % 1000:03}'.rstrip('0')
     percent += '0' if percent.endswith('.') else ''
     period = f' N {N:,}' if N else ''
-    return f'{TYPES.get(type, f"type {type:,}")} letter {name} AQL {percent}{period} seed 0x{seed:X}'
+    given = f' seed 0x{seed[0]:X}' if seed else ''
+    return f'{TYPES.get(type, f"type {type:,}")} letter {name} AQL {percent}{period}{given}'
 
 
 def unit_limit(code, words):
@@ -107,6 +113,15 @@ def frequency(code, words):
     if code == OPEN:
         return words[1]
     return LETTERS_N[words[1] - 1] if 1 <= words[1] <= len(LETTERS) else None
+
+
+def gives_seed(code, words):
+    """Whether an open has its seed written out, 0 included. One that has not takes the station number."""
+    return len(words) == max(WORDS[code])
+
+
+def is_station_number(number):
+    return 1 <= number <= MOST_STATION
 
 
 def in_range(type, n, i, S, x, N):
@@ -130,18 +145,27 @@ ASKING = {
     TICK: lambda: 'tick',
     TAKE: lambda: 'take',
     CHANGE: change_asked,
+    STATION: lambda number: f'station number {number:,}',
 }
 
 
 # ---- What was answered, in words
 
-def refused(code, words, refusal):
+def refused(code, words, refusal, opened):
     """A call and its refusal, with the reason; of an ill-formed frame the line itself."""
     if code == NO_FRAME:
         line, *torn = words
         return ' '.join([f'ill-formed frame: refused {refusal}  {quoted(line)}', *torn])
-    why = REFUSED[code].get(refusal) or REFUSALS[refusal]
-    return f'{asked(code, words).replace(": ", " ")}: refused {refusal}, {why}'
+    return f'{asked(code, words).replace(": ", " ")}: refused {refusal}, {reason(code, words, refusal, opened)}'
+
+
+def reason(code, words, refusal, opened):
+    """Why a call is refused so. `opened`: an open was accepted before it."""
+    if code == STATION and not is_station_number(*words):
+        return f'{TOO_LATE} and {NO_NUMBER}' if opened else NO_NUMBER
+    if code == TABLE and refusal == 9 and not opened:
+        return NO_SEED
+    return REFUSED[code].get(refusal) or REFUSALS[refusal]
 
 
 def skipped(first, last):

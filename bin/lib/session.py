@@ -7,10 +7,11 @@ where a marker stands for them, or no take has told them yet, the phase is not t
 from collections import Counter, deque
 
 from lib import calls, words
-from lib.calls import CHANGE, FIND, INTERRUPTED, NO_FRAME, OPEN, RESULT, TABLE, TAKE, TICK, TYPES, UNIT
+from lib.calls import CHANGE, FIND, INTERRUPTED, NO_FRAME, OPEN, RESULT, STATION, TABLE, TAKE, TICK, TYPES, UNIT
 from lib.history import SAMPLING, SCREENING
 from lib.journal import Journal, plain_fault
 from lib.phases import Phases, own_phase
+from lib.seeds import Seeds
 from lib.unseen import Runs, Unseen
 from lib.words import CHECK, DEFECT, GAP, INTERRUPT, KINDS, LONG, MISSED, PHASE, PLAN, SILENCE, START, counted, one_in
 
@@ -192,6 +193,7 @@ class Session:
         self.unseen = Unseen()
         self.runs = Runs()
         self.plan = None
+        self.seeds = Seeds()
         self.plans = Plans()
         self.waits = None     # the plan that waits, unless an untold event has taken it up
         self.limit = 0
@@ -211,10 +213,11 @@ class Session:
         fault = self.answer_fault(code, said, answer)
         if fault is not None:
             raw = '%02X %02X %08X %08X %08X' % answer
+            self.behind_fault(code, said, answer)
             return row(at, f'{calls.asked(code, said)}: {raw}', self.journal.cannot_be(at, fault))
         if refusal:
             self.refusals[refusal] += 1
-            return row(at, calls.refused(code, said, refusal))
+            return row(at, calls.refused(code, said, refusal, self.plan is not None))
         if kind:
             return self.entry(at, kind, number, unit, value)
         return row(at, HEARD[code](self, code, said, value))
@@ -224,9 +227,9 @@ class Session:
         fault = calls.answer_fault(code, answer) or (plain_fault(*answer) if answer[0] or not answer[1] else None)
         if fault is not None:
             return fault
-        due = self.due(code, said)
-        if due is not None and answer[0] not in (due, NUMBERS_END):
-            return f'refusal {due} is due here: {words.REFUSALS[due]}' if due else 'no refusal is due here'
+        fault = self.refusal_fault(code, said, answer[0])
+        if fault is not None:
+            return fault
         left = self.raised.left(self.journal.last)
         if code == TAKE and left and not any(answer):
             return f'{counted(left, "event")} or more are untold'
@@ -235,12 +238,24 @@ class Session:
             return f'the {follows.cause} that was told calls for {KINDS[follows.kind]} next'
         return None
 
+    def refusal_fault(self, code, said, refusal):
+        """Why the calls so far do not ask for this refusal, or for none, or None."""
+        due = self.due(code, said)
+        if due is None and refusal == 9:
+            seed = self.seeds.there(code, said)  # it is an open: of those of which nothing is due, only they can get 9
+            return f'no open was accepted before it, and {seed}' if seed else None
+        if due is None or refusal in (due, NUMBERS_END):
+            return None
+        return f'refusal {due} is due here: {calls.reason(code, said, due, self.plan is not None)}' if due else 'no refusal is due here'
+
     def due(self, code, said):
         """The refusal that the calls so far ask for, 0 where they ask for none, and None where they do not tell."""
         if code == NO_FRAME:
             return 9
+        if code == STATION:
+            return 0 if not self.plan and calls.is_station_number(*said) else 9
         if code in (OPEN, TABLE):
-            return 9 if self.plan else None
+            return 9 if self.plan or self.seeds.absent(code, said) else None
         if not self.plan:
             return 2
         if code == RESULT:
@@ -252,6 +267,15 @@ class Session:
         if code == UNIT:
             return 6 if said[0] <= self.tally.last else 7 if said[0] > self.limit else 0
         return None if code == FIND else 0
+
+    def behind_fault(self, code, said, answer):
+        """Before the open, what an answer that cannot be leaves behind: the frames after it are not blamed for it."""
+        if self.plan:
+            return
+        if code == STATION:
+            self.seeds.doubt()
+        elif code in (OPEN, TABLE) and not answer[0]:
+            self.opened(code, said, 0)
 
     def entry(self, at, kind, number, unit, value):
         """A take that tells an entry."""
@@ -324,11 +348,16 @@ class Session:
     # ---- Accepted calls that tell no entry: what each does here, and its words
 
     def opened(self, code, said, value):
-        self.plan = (code, calls.seeded(*said) if code == OPEN else calls.table_entry(*said))
+        taken = self.seeds.taken(code, said)
+        self.plan = (code, (calls.seeded(*said) if code == OPEN else calls.table_entry(*said)) + taken)
         self.plans.opened(code, said)
         self.journal.opened_with(calls.frequency(code, said))
         self.limit = calls.unit_limit(code, said)
         self.raised.surely(START, 0, said[2] if code == OPEN else None)
+        return calls.asked(code, said) + taken
+
+    def numbered(self, code, said, value):
+        self.seeds.accepted(*said)
         return calls.asked(code, said)
 
     def unit(self, code, said, value):
@@ -422,4 +451,5 @@ class Session:
 HEARD = {
     OPEN: Session.opened, TABLE: Session.opened, UNIT: Session.unit, RESULT: Session.result, TICK: Session.ticked,
     INTERRUPTED: Session.interrupted, FIND: Session.found, TAKE: Session.nothing, CHANGE: Session.changed,
+    STATION: Session.numbered,
 }

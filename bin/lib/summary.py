@@ -3,18 +3,20 @@
 import textwrap
 
 from lib import phases
-from lib.calls import CHANGE, FIND, INTERRUPTED, NAMES, NO_FRAME, OPEN, RESULT, TABLE, TAKE, TICK, UNIT
+from lib.calls import CHANGE, FIND, INTERRUPTED, NAMES, NO_FRAME, OPEN, RESULT, STATION, TABLE, TAKE, TICK, UNIT
 from lib.words import KINDS, among, counted, single, span, spans
 
 LABEL = 11
 WIDTH = 100
 FEW_GAPS = 2
-ORDER = (OPEN, TABLE, UNIT, RESULT, INTERRUPTED, FIND, TICK, CHANGE, TAKE, NO_FRAME)
+ORDER = (STATION, OPEN, TABLE, UNIT, RESULT, INTERRUPTED, FIND, TICK, CHANGE, TAKE, NO_FRAME)
 
 
 def lines(session):
     """The summary, line for line; the verdict is the last, and an alarm that was lost stands before it."""
-    parts = [('plan', [plan(session)]), ('frames', frames(session))]
+    parts = [('plan', [plan(session)])]
+    parts += [('station', [session.seeds.line()])] if session.seeds.line() else []
+    parts += [('frames', frames(session))]
     if session.plan:
         last, owed = session.tally.last, session.tally.owed
         parts += [('units', [units(session.tally)])]

@@ -11,10 +11,14 @@ LINE = re.compile(rb'[0-9A-F]{2} [0-9A-F]{2} [0-9A-F]{8} [0-9A-F]{8} [0-9A-F]{8}
 ANSWERS = re.compile(rb'(?:[0-9A-F]{2} [0-9A-F]{2}(?: [0-9A-F]{8}){3}\n)+[0-9A-F ]{0,32}')  # the last may be torn
 START, PHASE, LONG, DEFECT, MISSED, SILENCE, CHECK, INTERRUPT, GAP, PLAN = range(1, 11)
 LEAST_N, MOST_N = 2, 200  # a plan's frequency is one in n
+MOST_STATION = 65_535     # the last station number; the first is 1
 
 ILL_FORMED = 'an ill-formed frame'
 NO_RESULT = 'a result neither 0 nor 1'
 SECOND_OPEN = 'a second open'
+NO_SEED = 'neither seed nor station number'
+NO_NUMBER = f'not from 1 to {MOST_STATION:,}'
+TOO_LATE = 'after an accepted open'
 NOT_OPEN = 'no station is open'
 NO_PLAN = 'a plan number is out of range'
 NO_ENTRY = 'the table has no such entry'
@@ -28,7 +32,7 @@ REFUSALS = {
     6: 'the unit number is not above the last',
     7: 'the unit number is above the limit',
     8: 'not in screening, or nothing is left to recall',
-    9: f'{ILL_FORMED}, {NO_RESULT}, or {SECOND_OPEN}',
+    9: f'{ILL_FORMED}, {NO_RESULT}, {SECOND_OPEN}, no seed, or a station number too late or out of range',
     10: 'fewer than three event numbers are left',
     11: f'no such change: {NO_CHANGE}',
 }
