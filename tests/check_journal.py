@@ -73,6 +73,7 @@ REFUSED = '''\
      line  event         number       unit  what it says
         1  refused                          10: fewer than three event numbers are left
         2  refused                          11: no such change: another type, CSP-F, or i does not go with n
+        3  refused                          9: an ill-formed frame, a result neither 0 nor 1, a second open, no seed, or a station number too late or out of range
 No event is told; this file cannot tell what was raised.
 '''
 # Events and markers of three journals: document 01's case 9; one that lost alarms; the same with a line torn out of it.
@@ -474,7 +475,7 @@ TAKEN_UP = {
 def check(report, pair, options):
     says(report, 'the example', (FOLDER / 'example.out').read_bytes(), EXAMPLE)
     says(report, 'every kind', lines(*KINDS), EVERY_KIND, '--events')
-    says(report, 'refusals of a change', lines((10, 0, 0, 0, 0), (11, 0, 0, 0, 0)), REFUSED)
+    says(report, 'refusals that a request has touched', lines((10, 0, 0, 0, 0), (11, 0, 0, 0, 0), (9, 0, 0, 0, 0)), REFUSED)
     for name, text, status, *closing in closings():
         closes(report, name, text, status, ''.join(f'{line}\n' for line in closing))
     lost_alarms(report)

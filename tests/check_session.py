@@ -7,6 +7,7 @@ tried in a scratch repository with a kit of shell scripts, so that nothing is pr
 import fcntl
 import os
 import platform
+import random
 import re
 import shutil
 import signal
@@ -23,7 +24,7 @@ import programs
 from check_stored import FOLDER
 from drive import Driver
 from programs import ROOT
-from script import Script
+from script import Script, words
 
 sys.path.insert(0, str(ROOT / 'bin'))
 
@@ -284,6 +285,136 @@ SHOWN = {
     'a lower one waits on': ['lower, waits for the return to screening', '  waiting    CSP-1 n 5 i 4 S 4\n'],
     'at once in screening': ['one in 5', 'frequency  1 to 2  one in 3', '3 to 4  one in 5'],
 }
+# Station numbers and opens with and without a seed, written out by hand as above. 9,900 and 10,000 are 26AC and 2710: Table V has
+# the second alone. With a seed of 1,000 the generator steps to 2,678,429,223, which is above 2^31: the first place is 1.
+NUMBERS = (
+    '0A 0>09 00 0 0 0, 08 4 1 26AC 0>09 00 0 0 0, 08 4 1 2710 0>09 00 0 0 0, 07>02 00 0 0 0, 0A 7>00 00 0 0 0, '
+    '0A 10000>09 00 0 0 0, 0A 3E8>00 00 0 0 0, 0A 10007>09 00 0 0 0, 08 4 1 26AC 0>03 00 0 0 0, 01 1 1 2 3 0 0 0>03 00 0 0 0, '
+    '08 4 1 2710 0>00 00 0 0 0, 0A D>09 00 0 0 0, 0A 0>09 00 0 0 0, 08 4 1 2710 0>09 00 0 0 0, 08 4 1 2710 0 0>09 00 0 0 0, '
+    '01 1 2 2 3 0 0 0>09 00 0 0 0, 1, 2, 3, 4, 5, 02 6>00 00 0 0 0, 02 7>00 00 0 0 1, 03 0>00 00 0 0 0, '
+    '07>00 01 1 0 5, 07>00 02 2 5 1, 07>00 00 0 0 0'
+)
+NUMBERED = '''\
+    frame  call and answer         event         number       unit  what it says
+        1  station number 0: refused 9, not from 1 to 65,535
+        2  open CSP-T letter A AQL 9.9: refused 9, neither seed nor station number
+        3  open CSP-T letter A AQL 10.0: refused 9, neither seed nor station number
+        4  take: refused 2, no station is open
+        5  station number 7
+        6  station number 65,536: refused 9, not from 1 to 65,535
+        7  station number 1,000
+        8  station number 65,543: refused 9, not from 1 to 65,535
+        9  open CSP-T letter A AQL 9.9: refused 3, the table has no such entry
+       10  open CSP-1 n 1 i 2 S 3 seed 0x0: refused 3, a plan number is out of range
+       11  open CSP-T letter A AQL 10.0 seed 0x3E8, the station number
+       12  station number 13: refused 9, after an accepted open
+       13  station number 0: refused 9, after an accepted open and not from 1 to 65,535
+       14  open CSP-T letter A AQL 10.0: refused 9, a second open
+       15  open CSP-T letter A AQL 10.0 seed 0x0: refused 9, a second open
+       16  open CSP-1 n 2 i 2 S 3 seed 0x0: refused 9, a second open
+       17  unit 1: inspect
+       18  result: conforming
+       19  unit 2: inspect
+       20  result: conforming
+       21  unit 3: inspect
+       22  result: conforming
+       23  unit 4: inspect
+       24  result: conforming
+       25  unit 5: inspect
+       26  result: conforming
+       27  unit 6: pass
+       28  unit 7: inspect
+       29  result: conforming
+       30  take                    START              1             clearance number 5
+       31  take                    PHASE              2          5  sampling level 0
+       32  take: nothing to tell
+
+Summary
+  plan       CSP-T letter A AQL 10.0 seed 0x3E8, the station number; START tells i 5
+  station    number 1,000, the last of 2 given
+  frames     32: numbering 7, open 2, open from table 6, unit 7, result 6, take 4
+             13 refused: 1 with 2, 2 with 3, 10 with 9
+  units      7: 6 conforming, 0 defective, 1 passed, 0 missed, 0 owed a result
+  unseen     at most 1 unit in a row: 6 (passed)
+  events     2 told: START 1, PHASE 1
+  alarms     up to event 2: 0 LONG told, 0 raised; no alarm was lost
+  left       screening at unit 5, after 5 conforming units in a row: 1 to 5
+  phases     1 to 5  screening
+             6 to 7  sampling level 0
+             [#####00]
+             one sign a unit: # screening, 0 1 2 sampling level, . a missed stretch, ? not told
+Every event from 1 to 2 was taken and none is missing.
+'''
+# What the summary says of the plan and of the station number; None where it says nothing.
+SEEDS = {
+    '0A C>00 00 0 0 0, 08 4 1 2710 0>00 00 0 0 0': ('CSP-T letter A AQL 10.0 seed 0xC, the station number', 'number 12'),
+    '0A D>00 00 0 0 0, 08 4 1 2710 0>00 00 0 0 0': ('CSP-T letter A AQL 10.0 seed 0xD, the station number', 'number 13'),
+    '0A FFFF>00 00 0 0 0, 08 3 1 28 1F4>00 00 0 0 0':
+        ('CSP-F letter A AQL 0.04 N 500 seed 0xFFFF, the station number', 'number 65,535'),
+    '0A FFFF>00 00 0 0 0, 0A 10001>09 00 0 0 0, 0A 1>00 00 0 0 0, 0A 1>00 00 0 0 0, 08 4 1 2710 0>00 00 0 0 0, 0A 2>09 00 0 0 0':
+        ('CSP-T letter A AQL 10.0 seed 0x1, the station number', 'number 1, the last of 3 given'),
+    '0A C>00 00 0 0 0, 08 4 1 2710 0 0>00 00 0 0 0':
+        ('CSP-T letter A AQL 10.0 seed 0x0', 'number 12; the open has a seed of its own'),
+    '0A 7>00 00 0 0 0, 0A C>00 00 0 0 0, 08 4 1 2710 0 C>00 00 0 0 0':
+        ('CSP-T letter A AQL 10.0 seed 0xC', 'number 12, the last of 2 given; the open has a seed of its own'),
+    '0A C>00 00 0 0 0, 01 1 2 2 3 0 0 0>00 00 0 0 0': ('CSP-1 n 2 i 2 S 3 seed 0x0', 'number 12; the open has a seed of its own'),
+    '0A C>00 00 0 0 0, 08 1 1 2710 0>03 00 0 0 0, 02 1>02 00 0 0 0': ('no station was opened', 'number 12'),
+    '0A 0>09 00 0 0 0, 08 4 1 2710 0>09 00 0 0 0': ('no station was opened', None),
+    '08 4 1 2710 0 0>00 00 0 0 0, 0A C>09 00 0 0 0': ('CSP-T letter A AQL 10.0 seed 0x0', None),
+    '01 1 2 2 3 0 0 0>00 00 0 0 0': ('CSP-1 n 2 i 2 S 3 seed 0x0', None),
+}
+# Sessions in which one answer is not the program's: which, what is said of it, and of the plan in the end. No other is blamed.
+NOT_TOLD = 'CSP-T letter A AQL 10.0, its seed is not told'
+UNNUMBERED = {
+    'a number of 0': ('0A 0>00 00 0 0 0, 08 4 1 2710 0>09 00 0 0 0', 1, 'refusal 9 is due here: not from 1 to 65,535', None),
+    'a number of 0 that is taken for a seed':
+        ('0A 0>00 00 0 0 0, 08 4 1 2710 0>00 00 0 0 0, 07>00 01 1 0 5', 1, 'refusal 9 is due here: not from 1 to 65,535',
+         f'{NOT_TOLD}; START tells i 5'),
+    'a number of more than 16 bits':
+        ('0A C>00 00 0 0 0, 0A 10007>00 00 0 0 0, 08 4 1 2710 0>00 00 0 0 0', 2, 'refusal 9 is due here: not from 1 to 65,535', NOT_TOLD),
+    'a number after an accepted open':
+        ('0A C>00 00 0 0 0, 08 4 1 2710 0>00 00 0 0 0, 0A D>00 00 0 0 0, 07>00 01 1 0 5', 3,
+         'refusal 9 is due here: after an accepted open', 'CSP-T letter A AQL 10.0 seed 0xC, the station number; START tells i 5'),
+    'a number of 0 after an accepted open':
+        ('01 1 2 2 3 0 0 0>00 00 0 0 0, 0A 0>00 00 0 0 0', 2,
+         'refusal 9 is due here: after an accepted open and not from 1 to 65,535', 'CSP-1 n 2 i 2 S 3 seed 0x0'),
+    'the first number refused': ('0A 1>09 00 0 0 0, 08 4 1 2710 0>00 00 0 0 0', 1, 'no refusal is due here', NOT_TOLD),
+    'the last number refused': ('0A FFFF>09 00 0 0 0, 08 4 1 2710 0>09 00 0 0 0', 1, 'no refusal is due here', None),
+    'a second number refused': ('0A C>00 00 0 0 0, 0A D>09 00 0 0 0, 08 4 1 2710 0>00 00 0 0 0', 2, 'no refusal is due here', NOT_TOLD),
+    'a number refused and a seed':
+        ('0A C>09 00 0 0 0, 08 4 1 2710 0 5>00 00 0 0 0', 1, 'no refusal is due here', 'CSP-T letter A AQL 10.0 seed 0x5'),
+    'a number refused, and then one accepted':
+        ('0A C>09 00 0 0 0, 0A D>00 00 0 0 0, 08 4 1 2710 0>00 00 0 0 0', 1, 'no refusal is due here',
+         'CSP-T letter A AQL 10.0 seed 0xD, the station number'),
+    'a number refused as a call before an open': ('0A C>02 00 0 0 0', 1, 'no numbering is refused with 2', None),
+    'a number refused as no plan': ('0A 10000>03 00 0 0 0', 1, 'no numbering is refused with 3', None),
+    'a number with an order': ('0A C>00 00 0 0 1', 1, 'only a unit is given an order', None),
+    'a number that is told back': ('0A C>00 0A C 0 0', 1, 'only a take tells an event', None),
+    'an open with neither, as before W6':
+        ('08 4 1 2710 0>00 00 0 0 0, 07>00 01 1 0 5, 02 1>00 00 0 0 1', 1, 'refusal 9 is due here: neither seed nor station number',
+         f'{NOT_TOLD}; START tells i 5'),
+    'an open with neither, and 3 before 9':
+        ('08 4 1 26AC 0>03 00 0 0 0', 1, 'refusal 9 is due here: neither seed nor station number', None),
+    'a number that a refused one made forgotten':
+        ('0A C>00 00 0 0 0, 0A 0>09 00 0 0 0, 08 4 1 2710 0>09 00 0 0 0, 07>02 00 0 0 0', 3,
+         'no open was accepted before it, and the station number is 12', None),
+    'a number that a refused open made forgotten':
+        ('0A C>00 00 0 0 0, 08 4 1 26AC 0>03 00 0 0 0, 08 4 1 26AC 0>09 00 0 0 0', 3,
+         'no open was accepted before it, and the station number is 12', None),
+    'a seed of 0 that is taken for none': ('08 4 1 2710 0 0>09 00 0 0 0', 1, 'no open was accepted before it, and it has a seed', None),
+    'frame 01 that asks for a number': ('01 1 2 2 3 0 0 0>09 00 0 0 0', 1, 'no open was accepted before it, and it has a seed', None),
+    'a second open with no seed, and 3 before 9':
+        ('08 4 1 2710 0 0>00 00 0 0 0, 08 4 1 26AC 0>03 00 0 0 0', 2, 'refusal 9 is due here: a second open',
+         'CSP-T letter A AQL 10.0 seed 0x0'),
+}
+# Short random sessions about the open: how many, the station numbers and the seeds in them, and what they must reach.
+OPENS = 300
+OPEN_NUMBERS = (0, 1, 12, 13, 1_000, 65_535, 65_536, 65_548, 2 ** 31, 2 ** 32 - 1)
+OPEN_SEEDS = (0, 12, 2 ** 32 - 1)
+OPEN_GOALS = (
+    'seed: the station number', 'seed: the last of several', 'seed: its own, with a number', 'seed: its own, and no number', 'no open',
+    'refused: 9 for neither', 'refused: 9 after an open', 'refused: 3 with a number', 'wrong and caught', 'wrong, and nothing tells',
+)
 # What is said of accepted changes in random sessions, each once or more: whether n is the new one before and after the call.
 SAID_OF_CHANGES = {
     'nothing changes': (True, True), 'at once': (False, True), 'fresh screening sequence': (False, True),
@@ -331,6 +462,8 @@ def check(report, pair, options):
     stored_sessions(report)
     verdicts(report)
     changes(report)
+    numbers(report)
+    random_opens(report, options)
     alarms(report)
     heard = random_sessions(report, options)
     if programs.RECORDER in pair:
@@ -339,7 +472,7 @@ def check(report, pair, options):
         os.chmod(folder, 0o755)
         ways = in_scratch(report, Path(folder))
     return (f'every stored session, {len(VERDICTS) + len(DROPPED)} verdicts, {len(WRONG)} wrong answers to changes of plan, '
-            f'{len(FORGED)} wrong markers, {heard:,} random sessions against the model, '
+            f'{len(UNNUMBERED)} to station numbers and opens, {OPENS} short sessions about these, {len(FORGED)} wrong markers, {heard:,} random sessions against the model, '
             f'{ways} checks of how the commands are called and how they fail')
 
 
@@ -412,7 +545,7 @@ def changing():
 def changes(report):
     script = changing()
     said = heard_of(script.text(), script.expected())[1]
-    report.check(HEAD + said.replace('\nSummary', '\n\nSummary') + '\n' == CHANGED, f'bin/session on changes of plan says:\n{said}')
+    report.check(in_full(said) == CHANGED, f'bin/session on changes of plan says:\n{said}')
     after_a_jump(report)
     for name, (frame, answer, why) in WRONG.items():
         answers = [*script.answers[:frame - 1], answer, *script.answers[frame:]]
@@ -458,6 +591,124 @@ def written(text, short):
     """A line with its words in full; the first few are of two digits."""
     parts = text.split()
     return ' '.join(parts[:short] + [part.zfill(8) for part in parts[short:]]).encode() + b'\n'
+
+
+# ---- Station numbers
+
+def numbers(report):
+    frames, answers = by_hand(NUMBERS)
+    said = heard_of(frames, answers)[1]
+    report.check(in_full(said) == NUMBERED, f'bin/session on station numbers says:\n{said}')
+    report.check(model.run(frames) == answers, f'the model does not give these answers: {NUMBERS}')
+    for turns, due in SEEDS.items():
+        frames, answers = by_hand(turns)
+        session, said = heard_of(frames, answers)
+        shown = part(said, 'plan'), part(said, 'station')
+        report.check(session.journal.sound() and shown == due, f'bin/session after {turns} says: {shown}\n{said}')
+        report.check(model.run(frames) == answers, f'the model does not give these answers: {turns}')
+    for name, (turns, frame, why, plan) in UNNUMBERED.items():
+        frames, answers = by_hand(turns)
+        session, said = heard_of(frames, answers)
+        note, bad = said.splitlines()[frame], session.journal.impossible
+        noted = note.lstrip().startswith('!') and note.endswith(f': {why}') and bad == [frame]
+        report.check(noted, f'bin/session on {name} says: {note}, and frames {bad} cannot be')
+        report.check(part(said, 'plan') == (plan or 'no station was opened'), f'bin/session after {name} has the plan {part(said, "plan")}')
+        right = model.run(frames).split(b'\n')[frame - 1]
+        report.check(right != answers.split(b'\n')[frame - 1], f'the model gives this answer too: {name}')
+
+
+class Opens(Script):
+    """Station numbers and opens in any order, some of them refused, and takes between."""
+
+    def __init__(self, seed):
+        super().__init__()
+        self.random = random.Random(seed)
+        for _ in range(self.random.randrange(1, 12)):
+            self.line(self.frame())
+
+    def frame(self):
+        choice = self.random.choice
+        entry = 8, model.CSP_T, 1, choice((9_900, 10_000)), 0
+        return words(*choice((
+            (model.STATION_NUMBER, choice(OPEN_NUMBERS)), (model.STATION_NUMBER, choice(OPEN_NUMBERS)), entry, entry,
+            (*entry, choice(OPEN_SEEDS)), (1, model.CSP_1, choice((1, 2)), 2, 3, 0, 0, choice(OPEN_SEEDS)), (7,),
+        )))
+
+
+def random_opens(report, options):
+    reached = Counter()
+    for at in range(OPENS):
+        script = Opens(f'{options.seed}-opens-{at}')
+        session, said = heard_of(script.text(), script.expected())
+        report.check(session.journal.sound(), f'bin/session calls session {at} about the open impossible:\n{said}')
+        reached.update(seeds_said(report, f'session {at} about the open', script, said))
+        reached.update(open_refused(script))
+        reached.update([another_refusal(report, at, script)])
+    report.reached(reached, OPEN_GOALS)
+
+
+def seeds_said(report, name, script, said):
+    """The seed of the open and the station number are the model's; what they show."""
+    taken, numbers_given = seed_taken(script), numbers_taken(script)
+    shown = re.search(r'seed 0x([0-9A-F]+)(, the station number)?(?:; START tells i [\d,]+)?$', part(said, 'plan'))
+    told = (int(shown[1], 16), bool(shown[2])) if shown else None
+    report.check(told == taken, f'{name} says of the seed {part(said, "plan")}, and {taken} is due')
+    own = taken is not None and not taken[1]
+    of = f', the last of {len(numbers_given)} given' if len(numbers_given) > 1 else ''
+    due = f'number {numbers_given[-1]:,}{of}{"; the open has a seed of its own" if own else ""}' if numbers_given else None
+    report.check(part(said, 'station') == due, f'{name} says of the station {part(said, "station")}, and {due} is due')
+    if taken is None:
+        return ['no open']
+    if own:
+        return ['seed: its own, with a number' if numbers_given else 'seed: its own, and no number']
+    return ['seed: the last of several' if len(set(numbers_given)) > 1 else 'seed: the station number']
+
+
+def seed_taken(script):
+    """The seed that the model has right after the open, and whether the frame left it off; None where none was accepted."""
+    program = model.Program()
+    for line in script.lines:
+        program.answer(line)
+        if program.station:
+            return program.station.s, line.count(b' ') == 4
+    return None
+
+
+def numbers_taken(script):
+    """The station numbers that were accepted."""
+    return [int(line[3:], 16) for line, answer in zip(script.lines, script.answers) if line.startswith(b'0A') and answer == model.DONE]
+
+
+def open_refused(script):
+    """Which refusals an open without seed has got, and why."""
+    opened = False
+    for line, (refusal, *_) in zip(script.lines, script.answers):
+        if line.startswith(b'08') and line.count(b' ') == 4 and refusal:
+            yield 'refused: 3 with a number' if refusal == 3 else f'refused: 9 {"after an open" if opened else "for neither"}'
+        opened = opened or (line[:2] in (b'01', b'08') and not refusal)
+
+
+def another_refusal(report, at, script):
+    """One answer with another refusal is called wrong, and none before it; but whether a plan is in range no frame tells."""
+    place = script.random.randrange(len(script.answers))
+    was = script.answers[place][0]
+    other = script.random.choice([refusal for refusal in (0, 2, 3, 9) if refusal != was])
+    answers = [*script.answers[:place], model.refused(other), *script.answers[place + 1:]]
+    bad = heard_of(script.text(), b''.join(map(model.written, answers)))[0].journal.impossible
+    untold = {was, other} == {0, 3} and script.lines[place][:2] in (b'01', b'08')
+    good = min(bad, default=0) != place + 1 if untold else min(bad, default=0) == place + 1
+    report.check(good, f'session {at} about the open, with {other} for {was} in frame {place + 1}: frames {bad} cannot be')
+    return 'wrong, and nothing tells' if untold else 'wrong and caught'
+
+
+def in_full(said):
+    """What the command prints of a session, from the rows and the summary."""
+    return HEAD + said.replace('\nSummary', '\n\nSummary') + '\n'
+
+
+def part(said, label):
+    """A line of the summary, or None where it has none of this label."""
+    return next((line[13:] for line in said.splitlines() if line.startswith(f'  {label} ')), None)
 
 
 # ---- Alarms that were lost
@@ -572,6 +823,7 @@ def random_sessions(report, options):
         report.check(session.journal.sound(), f'bin/session calls random session {at} impossible: {said.splitlines()[-1]}')
         told += against_model(report, at, witness, session, said.splitlines()[-1])
         lost += alarms_said(report, at, witness, session, said)
+        seeds_said(report, f'random session {at}', witness, said)
         caught += one_wrong_answer(report, at, witness, text)
         said_of_changes.update(changes_said(report, at, witness, text, said))
         waiting = session.waiting()
@@ -661,6 +913,7 @@ def by_recorder(report):
     text = (FOLDER / 'example.in').read_bytes()
     expect(report, 'standard input', command('session', '--events', '-', input=text), 0, events)
     expect(report, 'changes of plan', command('session', '-', input=changing().text()), 0, CHANGED)
+    expect(report, 'station numbers', command('session', '-', input=by_hand(NUMBERS)[0]), 0, NUMBERED)
     expect(report, 'lost alarms', command('session', '--events', '-', input=check_journal.losing().text()), 0, LOST)
 
 
