@@ -363,49 +363,56 @@ SEEDS = {
     '08 4 1 2710 0 0>00 00 0 0 0, 0A C>09 00 0 0 0': ('CSP-T letter A AQL 10.0 seed 0x0', None),
     '01 1 2 2 3 0 0 0>00 00 0 0 0': ('CSP-1 n 2 i 2 S 3 seed 0x0', None),
 }
-# Sessions in which one answer is not the program's: which, what is said of it, and of the plan in the end. No other is blamed.
-NOT_TOLD = 'CSP-T letter A AQL 10.0, its seed is not told'
+# Sessions in which one answer is not the program's: which, what is said of it, and in the end of the plan and of the station
+# number, which nobody knows behind such an answer. No other frame is blamed.
+OUT_OF_RANGE, NEITHER = (f'refusal 9 is due here: {why}' for why in ('not from 1 to 65,535', 'neither seed nor station number'))
+NO_REFUSAL, NO_OPEN = 'no refusal is due here', 'no open was accepted before it, and '
+ENTRY, NEVER_OPENED = 'CSP-T letter A AQL 10.0', 'no station was opened'
+SEED_NOT_TOLD, NUMBER_NOT_TOLD = f'{ENTRY}, its seed is not told', 'the number is not told'
 UNNUMBERED = {
-    'a number of 0': ('0A 0>00 00 0 0 0, 08 4 1 2710 0>09 00 0 0 0', 1, 'refusal 9 is due here: not from 1 to 65,535', None),
+    'a number of 0': ('0A 0>00 00 0 0 0, 08 4 1 2710 0>09 00 0 0 0', 1, OUT_OF_RANGE, NEVER_OPENED, NUMBER_NOT_TOLD),
     'a number of 0 that is taken for a seed':
-        ('0A 0>00 00 0 0 0, 08 4 1 2710 0>00 00 0 0 0, 07>00 01 1 0 5', 1, 'refusal 9 is due here: not from 1 to 65,535',
-         f'{NOT_TOLD}; START tells i 5'),
+        ('0A 0>00 00 0 0 0, 08 4 1 2710 0>00 00 0 0 0, 07>00 01 1 0 5', 1, OUT_OF_RANGE,
+         f'{SEED_NOT_TOLD}; START tells i 5', NUMBER_NOT_TOLD),
     'a number of more than 16 bits':
-        ('0A C>00 00 0 0 0, 0A 10007>00 00 0 0 0, 08 4 1 2710 0>00 00 0 0 0', 2, 'refusal 9 is due here: not from 1 to 65,535', NOT_TOLD),
+        ('0A C>00 00 0 0 0, 0A 10007>00 00 0 0 0, 08 4 1 2710 0>00 00 0 0 0', 2, OUT_OF_RANGE, SEED_NOT_TOLD, NUMBER_NOT_TOLD),
     'a number after an accepted open':
         ('0A C>00 00 0 0 0, 08 4 1 2710 0>00 00 0 0 0, 0A D>00 00 0 0 0, 07>00 01 1 0 5', 3,
-         'refusal 9 is due here: after an accepted open', 'CSP-T letter A AQL 10.0 seed 0xC, the station number; START tells i 5'),
+         'refusal 9 is due here: after an accepted open', f'{ENTRY} seed 0xC, the station number; START tells i 5', 'number 12'),
     'a number of 0 after an accepted open':
         ('01 1 2 2 3 0 0 0>00 00 0 0 0, 0A 0>00 00 0 0 0', 2,
-         'refusal 9 is due here: after an accepted open and not from 1 to 65,535', 'CSP-1 n 2 i 2 S 3 seed 0x0'),
-    'the first number refused': ('0A 1>09 00 0 0 0, 08 4 1 2710 0>00 00 0 0 0', 1, 'no refusal is due here', NOT_TOLD),
-    'the last number refused': ('0A FFFF>09 00 0 0 0, 08 4 1 2710 0>09 00 0 0 0', 1, 'no refusal is due here', None),
-    'a second number refused': ('0A C>00 00 0 0 0, 0A D>09 00 0 0 0, 08 4 1 2710 0>00 00 0 0 0', 2, 'no refusal is due here', NOT_TOLD),
+         'refusal 9 is due here: after an accepted open and not from 1 to 65,535', 'CSP-1 n 2 i 2 S 3 seed 0x0', None),
+    'the first number refused': ('0A 1>09 00 0 0 0, 08 4 1 2710 0>00 00 0 0 0', 1, NO_REFUSAL, SEED_NOT_TOLD, NUMBER_NOT_TOLD),
+    'the last number refused': ('0A FFFF>09 00 0 0 0, 08 4 1 2710 0>09 00 0 0 0', 1, NO_REFUSAL, NEVER_OPENED, NUMBER_NOT_TOLD),
+    'a second number refused':
+        ('0A C>00 00 0 0 0, 0A D>09 00 0 0 0, 08 4 1 2710 0>00 00 0 0 0', 2, NO_REFUSAL, SEED_NOT_TOLD, NUMBER_NOT_TOLD),
     'a number refused and a seed':
-        ('0A C>09 00 0 0 0, 08 4 1 2710 0 5>00 00 0 0 0', 1, 'no refusal is due here', 'CSP-T letter A AQL 10.0 seed 0x5'),
+        ('0A C>09 00 0 0 0, 08 4 1 2710 0 5>00 00 0 0 0', 1, NO_REFUSAL, f'{ENTRY} seed 0x5', NUMBER_NOT_TOLD),
     'a number refused, and then one accepted':
-        ('0A C>09 00 0 0 0, 0A D>00 00 0 0 0, 08 4 1 2710 0>00 00 0 0 0', 1, 'no refusal is due here',
-         'CSP-T letter A AQL 10.0 seed 0xD, the station number'),
-    'a number refused as a call before an open': ('0A C>02 00 0 0 0', 1, 'no numbering is refused with 2', None),
-    'a number refused as no plan': ('0A 10000>03 00 0 0 0', 1, 'no numbering is refused with 3', None),
-    'a number with an order': ('0A C>00 00 0 0 1', 1, 'only a unit is given an order', None),
-    'a number that is told back': ('0A C>00 0A C 0 0', 1, 'only a take tells an event', None),
+        ('0A C>09 00 0 0 0, 0A D>00 00 0 0 0, 08 4 1 2710 0>00 00 0 0 0', 1, NO_REFUSAL,
+         f'{ENTRY} seed 0xD, the station number', 'number 13'),
+    'a number refused as a call before an open': ('0A C>02 00 0 0 0', 1, 'no numbering is refused with 2', NEVER_OPENED, NUMBER_NOT_TOLD),
+    'a number refused as no plan': ('0A 10000>03 00 0 0 0', 1, 'no numbering is refused with 3', NEVER_OPENED, NUMBER_NOT_TOLD),
+    'a number with an order': ('0A C>00 00 0 0 1', 1, 'only a unit is given an order', NEVER_OPENED, NUMBER_NOT_TOLD),
+    'a number that is told back': ('0A C>00 0A C 0 0', 1, 'only a take tells an event', NEVER_OPENED, NUMBER_NOT_TOLD),
     'an open with neither, as before W6':
-        ('08 4 1 2710 0>00 00 0 0 0, 07>00 01 1 0 5, 02 1>00 00 0 0 1', 1, 'refusal 9 is due here: neither seed nor station number',
-         f'{NOT_TOLD}; START tells i 5'),
-    'an open with neither, and 3 before 9':
-        ('08 4 1 26AC 0>03 00 0 0 0', 1, 'refusal 9 is due here: neither seed nor station number', None),
+        ('08 4 1 2710 0>00 00 0 0 0, 07>00 01 1 0 5, 02 1>00 00 0 0 1', 1, NEITHER, f'{SEED_NOT_TOLD}; START tells i 5', None),
+    'an open with neither, and 3 before 9': ('08 4 1 26AC 0>03 00 0 0 0', 1, NEITHER, NEVER_OPENED, None),
     'a number that a refused one made forgotten':
         ('0A C>00 00 0 0 0, 0A 0>09 00 0 0 0, 08 4 1 2710 0>09 00 0 0 0, 07>02 00 0 0 0', 3,
-         'no open was accepted before it, and the station number is 12', None),
+         f'{NO_OPEN}the station number is 12', NEVER_OPENED, 'number 12'),
     'a number that a refused open made forgotten':
         ('0A C>00 00 0 0 0, 08 4 1 26AC 0>03 00 0 0 0, 08 4 1 26AC 0>09 00 0 0 0', 3,
-         'no open was accepted before it, and the station number is 12', None),
-    'a seed of 0 that is taken for none': ('08 4 1 2710 0 0>09 00 0 0 0', 1, 'no open was accepted before it, and it has a seed', None),
-    'frame 01 that asks for a number': ('01 1 2 2 3 0 0 0>09 00 0 0 0', 1, 'no open was accepted before it, and it has a seed', None),
+         f'{NO_OPEN}the station number is 12', NEVER_OPENED, 'number 12'),
+    'a seed of 0 that is taken for none': ('08 4 1 2710 0 0>09 00 0 0 0', 1, f'{NO_OPEN}it has a seed', NEVER_OPENED, None),
+    'frame 01 that asks for a number': ('01 1 2 2 3 0 0 0>09 00 0 0 0', 1, f'{NO_OPEN}it has a seed', NEVER_OPENED, None),
+    'frame 01 with an order':
+        ('01 1 2 2 3 0 0 0>00 00 0 0 1, 07>00 01 1 0 2', 1, 'only a unit is given an order', 'CSP-1 n 2 i 2 S 3 seed 0x0', None),
     'a second open with no seed, and 3 before 9':
-        ('08 4 1 2710 0 0>00 00 0 0 0, 08 4 1 26AC 0>03 00 0 0 0', 2, 'refusal 9 is due here: a second open',
-         'CSP-T letter A AQL 10.0 seed 0x0'),
+        ('08 4 1 2710 0 0>00 00 0 0 0, 08 4 1 26AC 0>03 00 0 0 0', 2, 'refusal 9 is due here: a second open', f'{ENTRY} seed 0x0', None),
+    'a second open that is accepted':
+        ('0A C>00 00 0 0 0, 08 4 1 2710 0>00 00 0 0 0, 08 4 2 2710 0 0>00 00 0 0 0', 3, 'refusal 9 is due here: a second open',
+         f'{ENTRY} seed 0xC, the station number', 'number 12'),
 }
 # Short random sessions about the open: how many, the station numbers and the seeds in them, and what they must reach.
 OPENS = 300
@@ -433,6 +440,16 @@ ROWS = {
     'table-absent': 'refused 3, the table has no such entry',
     'table-v-with-seed': '  plan       CSP-T letter K AQL 10.0 seed 0x12345678; START tells i 23',
     'table-iii-a-4': '  plan       CSP-F letter H AQL 0.04 N 70,001',
+    'table-v-with-station-number': '  plan       CSP-T letter G AQL 2.5 seed 0x1234, the station number; START tells i 49',
+    'table-iii-a-4-with-station-number': '        2  open CSP-F letter A AQL 0.04 N 500 seed 0xC, the station number',
+    'station-number-neighbour-11': '  station    number 11',
+    'station-number-neighbour-12': '  station    number 12',
+    'station-number-replaced': '  station    number 5, the last of 6 given',
+    'station-number-and-seed-0': '  station    number 40,000; the open has a seed of its own',
+    'station-number-missing': 'refused 9, neither seed nor station number',
+    'station-number-after-open': 'refused 9, after an accepted open',
+    'station-number-refused': '        7  station number 65,537: refused 9, not from 1 to 65,535',
+    'station-number-torn': "        7  ill-formed frame: refused 9  '0A 00009C40' with no line feed",
     'unit-numbers': 'refused 7, the unit number is above the limit',
     'finds-refused': 'refused 8, not in screening, or nothing is left to recall',
     'case-4-levels': 'sampling level 2',
@@ -472,7 +489,8 @@ def check(report, pair, options):
         os.chmod(folder, 0o755)
         ways = in_scratch(report, Path(folder))
     return (f'every stored session, {len(VERDICTS) + len(DROPPED)} verdicts, {len(WRONG)} wrong answers to changes of plan, '
-            f'{len(UNNUMBERED)} to station numbers and opens, {OPENS} short sessions about these, {len(FORGED)} wrong markers, {heard:,} random sessions against the model, '
+            f'{len(UNNUMBERED)} to station numbers and opens, {len(FORGED)} wrong markers, {OPENS} random sessions about the open and '
+            f'{heard:,} others against the model, '
             f'{ways} checks of how the commands are called and how they fail')
 
 
@@ -490,6 +508,8 @@ def heard_of(text, answers):
 
 def stored_sessions(report):
     """Every stored session is one that a station answers, and some have a row that shows their point."""
+    gone = set(ROWS) - {path.stem for path in FOLDER.glob('*.in')}
+    report.check(not gone, f'no such session is stored, and it has a row to show: {gone}')
     for path in sorted(FOLDER.glob('*.in')):
         session, said = heard_of(path.read_bytes(), path.with_suffix('.out').read_bytes())
         report.check(session.journal.sound(), f'bin/session calls sessions/{path.name} impossible:\n{said[-400:]}')
@@ -600,19 +620,28 @@ def numbers(report):
     said = heard_of(frames, answers)[1]
     report.check(in_full(said) == NUMBERED, f'bin/session on station numbers says:\n{said}')
     report.check(model.run(frames) == answers, f'the model does not give these answers: {NUMBERS}')
+    seeds(report)
+    wrong_numbers(report)
+
+
+def seeds(report):
     for turns, due in SEEDS.items():
         frames, answers = by_hand(turns)
         session, said = heard_of(frames, answers)
         shown = part(said, 'plan'), part(said, 'station')
         report.check(session.journal.sound() and shown == due, f'bin/session after {turns} says: {shown}\n{said}')
         report.check(model.run(frames) == answers, f'the model does not give these answers: {turns}')
-    for name, (turns, frame, why, plan) in UNNUMBERED.items():
+
+
+def wrong_numbers(report):
+    for name, (turns, frame, why, *due) in UNNUMBERED.items():
         frames, answers = by_hand(turns)
         session, said = heard_of(frames, answers)
         note, bad = said.splitlines()[frame], session.journal.impossible
         noted = note.lstrip().startswith('!') and note.endswith(f': {why}') and bad == [frame]
         report.check(noted, f'bin/session on {name} says: {note}, and frames {bad} cannot be')
-        report.check(part(said, 'plan') == (plan or 'no station was opened'), f'bin/session after {name} has the plan {part(said, "plan")}')
+        shown = [part(said, 'plan'), part(said, 'station')]
+        report.check(shown == due, f'bin/session after {name} says: {shown}')
         right = model.run(frames).split(b'\n')[frame - 1]
         report.check(right != answers.split(b'\n')[frame - 1], f'the model gives this answer too: {name}')
 
