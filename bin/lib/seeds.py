@@ -10,7 +10,7 @@ class Seeds:
 
     def __init__(self):
         self.numbers = []    # those that were accepted; the last is the station's
-        self.certain = True  # but where an answer to a later frame 0A is none that the program gives
+        self.certain = True  # not so behind an answer to a frame 0A that the program could not give
         self.own = False     # the accepted open gave its seed itself
 
     def accepted(self, number):
@@ -32,8 +32,8 @@ class Seeds:
         """Whether an open has neither seed nor station number."""
         return self.certain and not self.there(code, said)
 
-    def taken(self, code, said):
-        """What an accepted open takes, in words to stand behind its own."""
+    def opened(self, code, said):
+        """An open was accepted: the seed that it takes, in words to stand behind its own."""
         self.own = gives_seed(code, said)
         if self.own:
             return ''

@@ -348,7 +348,7 @@ class Session:
     # ---- Accepted calls that tell no entry: what each does here, and its words
 
     def opened(self, code, said, value):
-        taken = self.seeds.taken(code, said)
+        taken = self.seeds.opened(code, said)
         self.plan = (code, (calls.seeded(*said) if code == OPEN else calls.table_entry(*said)) + taken)
         self.plans.opened(code, said)
         self.journal.opened_with(calls.frequency(code, said))
