@@ -2638,13 +2638,10 @@ def pinned_program(s):
     s.find()
     s.line(b'')
     s.line(b'07\r')
-    # a plan out of range, and entries that no table has: without seed and station number 9, and with a seed 3; after a refused
-    # open a call still gets 2
+    # a plan out of range, and entries that no table has; after a refused open a call still gets 2
     s.open(CSP_1, 2, 2, 1)
     s.open(CSP_F, 2, 2, 2, N=9)
-    for entry in ((CSP_1, A, 10_000), (CSP_T, 0, 10_000)):
-        s.table(*entry, seed=None)
-    for entry in ((CSP_T, 12, 10_000), (CSP_T, A, 40), (CSP_T, A, 10_000, 1)):
+    for entry in ((CSP_1, A, 10_000), (CSP_T, 0, 10_000), (CSP_T, 12, 10_000), (CSP_T, A, 40), (CSP_T, A, 10_000, 1)):
         s.table(*entry)
     for entry in ((CSP_F, I, 40, 500), (CSP_F, A, 400, 500), (CSP_F, A, 40, 0), (CSP_F, A, 40, 1_000_001)):
         s.table(*entry, seed=5)
@@ -2729,6 +2726,15 @@ def pinned_station_number(s):
     letter_a(s)
     s.station_number(1)
     # i is 5, and the orders are those of seed 65,535
+    s.good(5)
+    s.units(8)
+
+
+@session
+def pinned_seed_over_number(s):
+    """Pinned. Frame 08 with a seed after frame 0A: the seed is the one that is written, 0 too, and the number is none."""
+    s.station_number(65_535)
+    letter_a(s, seed=0)
     s.good(5)
     s.units(8)
 
