@@ -101,7 +101,7 @@ TABLES = {CSP_T: 'Table V', CSP_F: 'Table III-A-4'}
 OUT_OF_RANGE = {0: '0', MOST_STATIONS + 1: '65,536', WORD - 1: 'FFFFFFFF'}
 LOW_BITS = 'in range in its low bits'
 LEFT_BY = ('a refused number', 'an ill-formed 0A', 'a refused 01', 'a refused 08', 'a number before it')
-BEFORE_WORK = {OPEN: '01', TABLE_OPEN: '08', STATION_NUMBER: '0A'}
+BEFORE_OPEN = {OPEN: '01', TABLE_OPEN: '08', STATION_NUMBER: '0A'}
 STATION_NUMBERS = (
     'station number 1', 'station number 65,535', 'station number replaced', 'the same station number again',
     *(f'station number {number}, {who} before' for number in (*OUT_OF_RANGE.values(), LOW_BITS) for who in ('none', 'one')),
@@ -109,12 +109,12 @@ STATION_NUMBERS = (
     'station number with 0 words', 'station number with 2 words',
     *(f'neither seed nor station number, entry {where}' for where in ('there', 'absent')),
     *(f'absent entry {seed}' for seed in ('with seed', 'with the station number')),
-    *(f'{table} {seed}' for table in TABLES.values() for seed in ('with seed', 'with seed over a station number', 'with the station number')),
+    *(f'{table} with {seed}' for table in TABLES.values() for seed in ('seed', 'seed over a station number', 'the station number')),
     'seed 0 over a station number', '01 over a station number',
     *(f'seed is the station number after {what}' for what in LEFT_BY),
     *(f'no seed after an open, {who} station number' for who in ('a', 'no')),
     'block drawn from the station number', 'place that seed 0 would not choose',
-    *(f'{", ".join(order)}: 08 {seed}' for order in permutations(BEFORE_WORK.values()) for seed in ('with seed', 'without seed')),
+    *(f'{", ".join(order)}: 08 {seed}' for order in permutations(BEFORE_OPEN.values()) for seed in ('with seed', 'without seed')),
 )
 
 # What a run must reach at least once. Refusal 1 needs another memory and 10 eight million events: neither is a
@@ -254,6 +254,13 @@ class Raised:
         self.lost.append(lost)
 
 
+def good_words(code, words):
+    """Whether one of the three frames that have their place before the open is good by itself."""
+    if code == STATION_NUMBER:
+        return 1 <= words[0] <= MOST_STATIONS
+    return plan_in_range(*words[:6]) if code == OPEN else table_plan(*words[:4]) is not None
+
+
 class Numbers:
     """The station number of a session: what gives it, what leaves it, and which seed an open takes."""
 
@@ -267,13 +274,13 @@ class Numbers:
 
     def hear(self, frame, refusal):
         code, words = frame
-        if code not in BEFORE_WORK:
+        if code not in BEFORE_OPEN:
             return
         calls = {OPEN: self.open, TABLE_OPEN: self.table_open, STATION_NUMBER: self.station_number}
         yield from calls[code](words, refusal)
         yield from self.in_order(code, words)
         if code != STATION_NUMBER and not refusal:
-            self.opened_by = BEFORE_WORK[code]
+            self.opened_by = BEFORE_OPEN[code]
 
     def ill_formed(self, text):
         if text.startswith(b'0A') and FRAME.fullmatch(text):
@@ -281,9 +288,9 @@ class Numbers:
             yield f'station number with {text.count(b" ")} words'
 
     def station_number(self, words, refusal):
-        number, in_range = words[0], 1 <= words[0] <= MOST_STATIONS
+        number = words[0]
         if self.opened_by:
-            yield f'station number after {self.opened_by}, {"in" if in_range else "out of"} range'
+            yield f'station number after {self.opened_by}, {"in" if good_words(STATION_NUMBER, words) else "out of"} range'
         elif refusal:
             self.left_by.add('a refused number')
             yield f'station number {OUT_OF_RANGE.get(number, LOW_BITS)}, {"one" if self.number else "none"} before'
@@ -322,16 +329,12 @@ class Numbers:
             yield '01 over a station number'
 
     def in_order(self, code, words):
-        good = {
-            OPEN: lambda: plan_in_range(*words[:6]), TABLE_OPEN: lambda: table_plan(*words[:4]),
-            STATION_NUMBER: lambda: 1 <= words[0] <= MOST_STATIONS,
-        }
-        if BEFORE_WORK[code] in self.came or not good[code]():
+        if BEFORE_OPEN[code] in self.came or not good_words(code, words):
             return
-        self.came.append(BEFORE_WORK[code])
+        self.came.append(BEFORE_OPEN[code])
         if code == TABLE_OPEN:
             self.seeded = 'with seed' if len(words) == 5 else 'without seed'
-        if len(self.came) == len(BEFORE_WORK):
+        if len(self.came) == len(BEFORE_OPEN):
             yield f'{", ".join(self.came)}: 08 {self.seeded}'
 
     def drawn(self, before, after):
