@@ -74,10 +74,10 @@ fn open_reply(
     let answer = turn.answer;
     let station = turn.station;
     put_line(out, at, answer_line(answer));
-    let number = s.number;
+    let kept = s.number;
     Standing {
         opened: accepted(answer),
-        number,
+        number: kept,
         station,
     }
 }
@@ -166,9 +166,9 @@ fn first_reply(s: Standing, q: &mut [u32], frame: Frame, out: &mut [u8], at: usi
             period,
             seed,
         } => {
-            let number = s.number;
+            let given = s.number;
             let found = tables::look_up(kind, letter, aql, period);
-            table_reply(s, q, seed_of(seed, number), found, out, at)
+            table_reply(s, q, seed_of(seed, given), found, out, at)
         }
         Frame::StationNumber(number) => number_reply(s, q, number, out, at),
         Frame::Call(_) => refused_reply(s, Refusal::UnsoundRecord, out, at),
