@@ -15,10 +15,11 @@ use rules::Refusal;
 use rules::Station;
 ghost use mathlib.Core.Path.{_≡_};
 ghost use mathlib.Core.Bool.{true, false};
+ghost use mathlib.Core.List.{List};
 ghost use Rattle.rules.specs.Tests.{within};
 ghost use Rattle.rules.specs.Calls.{openCall, outcome};
 ghost use Rattle.rules.specs.Frames.{newSession, answerLine, accepted, openReply, replyWith, numberReply, seedOf, foundReply, tableReply, frameReply, reply};
-ghost use Prim.Native.Nat.{_+_, _≤_};
+ghost use Prim.Native.Nat.{ℕ, _+_, _≤_};
 ghost use lib.ListN.{length};
 ghost use lib.Seq.{paste};
 ghost use Rattle.frames.specs.Replies.{Gives, sessionOf, newStanding};
@@ -91,10 +92,10 @@ fn refused_reply(s: Standing, r: Refusal, out: &mut [u8], at: usize) -> Standing
     s
 }
 
-// A station number before the open.
-fn number_reply(s: Standing, q: &[u32], number: u32, out: &mut [u8], at: usize) -> Standing
+// A station number before the open; whatever the queue holds, it stays.
+fn number_reply(s: Standing, number: u32, out: &mut [u8], at: usize) -> Standing
     requires { ⌜ at + 33 ≤ length (now out) ⌝ }
-    ensures { λ r. ⌜ Gives (numberReply (within 1 number 65535) (sessionOf s (now (q .entry))) number) r (now (q .entry)) (now (out .entry)) at (now (out .exit)) ⌝ }
+    ensures { λ r. ⌜ ((queue : List ℕ) → Gives (numberReply (within 1 number 65535) (sessionOf s queue) number) r queue (now (out .entry)) at (now (out .exit))) ⌝ }
 {
     if (1 <= number) & (number <= 65535) {
         put_answer(out, at, Answer::Done);
@@ -170,7 +171,7 @@ fn first_reply(s: Standing, q: &mut [u32], frame: Frame, out: &mut [u8], at: usi
             let found = tables::look_up(kind, letter, aql, period);
             table_reply(s, q, seed_of(seed, given), found, out, at)
         }
-        Frame::StationNumber(number) => number_reply(s, q, number, out, at),
+        Frame::StationNumber(number) => number_reply(s, number, out, at),
         Frame::Call(_) => refused_reply(s, Refusal::UnsoundRecord, out, at),
     }
 }

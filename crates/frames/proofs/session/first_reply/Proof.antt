@@ -12,7 +12,7 @@ returns-2 : tie.Need-returns-2
 returns-2 c = rw (c .before .before .before .before .before .before .before .before .before .before .frame2 .given .1) (rw (c .before .before .before .before .before .before .before .before .look-up .ensures, c .before .before .before .before .before .before .seed-of .ensures) at (c .before .before .before .before .table-reply .ensures))
 
 returns-3 : tie.Need-returns-3
-returns-3 c = rw (c .before .before .before .before .before .before .frame3 .given .1) (c .before .before .number-reply .ensures)
+returns-3 c = rw (c .before .before .before .before .before .frame3 .given .1) (c .before .before .number-reply .ensures (now (c .before .before .before .before .before .before .before .before .before .args .q)))
 
 returns-4 : tie.Need-returns-4
 returns-4 c = let a = c .before .before .before .before .before .before .before .before .args in rw (c .before .before .before .before .enum-told .given .1) (gives-refused _ _ _ _ (a .s) (now (a .q)) UnsoundRecord (c .before .before .refused-reply .ensures))
@@ -37,7 +37,6 @@ first-reply-spec =
     (λ c. search needs)
     (λ c. search needs)
     returns-2
-    (λ c. search needs)
     (λ c. search needs)
     returns-3
     (λ c. search needs)
