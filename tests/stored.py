@@ -2714,19 +2714,34 @@ def pinned_station_number(s):
         s.station_number(number)
     s.line(b'0A')
     s.line(words(10, 1, 1))
+    # a digit that is none; three, four and seven words; other codes with one word, and with a table's four
+    s.line(b'0A 0000000G')
+    s.line(words(10, 1, 1, 1))
+    s.line(words(10, CSP_T, A, 10_000, 0))
+    s.line(words(10, CSP_1, 2, 2, 3, 0, 0, 0))
+    s.line(words(11, 1))
+    s.line(words(1, 1))
+    s.line(words(9, CSP_T, A, 10_000, 0))
     letter_a(s)
+    # each word of a table open broken
+    for at in range(5):
+        open_words = [b'00000004', b'00000001', b'00002710', b'00000000', b'00000000']
+        open_words[at] = b'0000000G'
+        s.line(b' '.join([b'08', *open_words]))
     # the first, and one that replaces it; what is refused leaves it
     s.station_number(1)
     s.station_number(65_535)
     s.station_number(0)
+    s.station_number(131_073)
     s.open(CSP_1, 2, 2, 1)
     s.table(CSP_T, A, 40, seed=None)
     s.table(CSP_T, A, 40)
-    # then every 0A gets 9
+    # then every 0A gets 9, also once units have come
     letter_a(s)
     s.station_number(1)
     # i is 5, and the orders are those of seed 65,535
     s.good(5)
+    s.station_number(2)
     s.units(8)
 
 
