@@ -82,15 +82,21 @@ ABSENT = 1_000
 
 
 def absent(report, jobs, options, number):
-    """Entries that no table has, many to a session: a refused open leaves the next one free, and the station number as it is."""
+    """Entries that no table has, many to a session: a refused open leaves the next one free, and the station number as it is.
+
+    Without a number those that leave their seed off get 9 before anything is looked up, and come on top of the others.
+    """
     chosen = random.Random(f'{options.seed}-absent-{number}')
     near = (*range(13), 39, 40, 41, 399, 400, 500, 650, 10_000, 10_001, 70_000, 1_000_000, 1_000_001, 2 ** 32 - 1)
     script = Script()
+    looked_up = 0
     if number:
         script.station_number(number)
-    while len(script.lines) < ABSENT + bool(number):
+    while looked_up < ABSENT:
         entry = [chosen.choice((3, 4, chosen.choice(near))), *(chosen.choice(near) for _ in range(3))]
         if model.table_plan(*entry) is None:
-            script.table(*entry, seed=chosen.choice((None, 0, 7)))
+            seed = chosen.choice((None, 0, 7))
+            script.table(*entry, seed=seed)
+            looked_up += bool(number) or seed is not None
     name, text = f'table-absent-entries-{number}', script.text()
     report.agreed(name, text, {'model': script.expected(), **programs.outputs(jobs, text)})
