@@ -1,11 +1,16 @@
 """Stored sessions: the model, the recorder and the second program against each sessions/NAME.out."""
 
+import re
+
 import model
 import programs
 import stored
 from programs import ROOT
 
 FOLDER = ROOT / 'sessions'
+# W6: a script that opens from a table writes its seed out, 0 too, unless it is there to show what a station number does.
+NO_SEED = re.compile(rb'(?m)^08(?: [0-9A-F]{8}){4}$')
+SHOWS_NUMBERS = 'station-number'
 
 
 def check(report, pair, options):
@@ -17,6 +22,8 @@ def check(report, pair, options):
         frames += text.count(b'\n')
         stored_answers = (FOLDER / f'{name}.out').read_bytes()
         report.agreed(name, text, {'stored': stored_answers, 'model': model.run(text), **programs.outputs(jobs, text)})
+        report.check(SHOWS_NUMBERS in name or not NO_SEED.search(text), f'sessions/{name}.in has a table open without a seed')
+    report.check(any(NO_SEED.search((FOLDER / f'{name}.in').read_bytes()) for name in names), 'no session has a table open without a seed')
     as_described(report, names)
     if programs.RECORDER in pair:
         by_hand(report)
