@@ -4,7 +4,7 @@ mod pairs;
 
 ghost use Rattle.std.specs.Prelude.{◌≡◌, ◌+◌, ◌*◌, ◌/◌, ◌%◌, ◌^◌, ◌≤◌};
 ghost use Rattle.rules.specs.Draw.{step, place};
-ghost use Rattle.rules.specs.Sampling.{blockLength, nextPlace};
+ghost use Rattle.rules.specs.Sampling.{block_length, next_place};
 
 pub use pairs::{applied, composed, pair_of, skip};
 use rules::Plan;
@@ -16,7 +16,7 @@ const ADDEND: u32 = 1013904223;
 
 // L, of any n and level.
 pub fn block_length(p: Plan, level: u32) -> u64
-    ensures { result ≡ blockLength p level }
+    ensures { result ≡ block_length p level }
 {
     let n = p.n as u64;
     let twice = n + n;
@@ -31,7 +31,7 @@ pub fn block_length(p: Plan, level: u32) -> u64
 
 // The place after this one, counted round a block.
 pub fn next_place(len: u64, at: u32) -> u64
-    ensures { (result ≡ nextPlace len at) × (result ≤ at + 1) }
+    ensures { (result ≡ next_place len at) × (result ≤ at + 1) }
 {
     let next = (at as u64) + 1;
     if next == len { 0 } else { next }

@@ -12,8 +12,8 @@ use Rattle.frames.specs.Weights.{weight}
 abbrev pub WeighsTo : List ℕ → ℕ → Type 0
 WeighsTo t n = (k : ℕ) → k < n → get_or t k 0 ≡ weight k
 
-pub weighs-more : (t : List ℕ) (n v : ℕ) → n < length t → v ≡ weight n → WeighsTo t n → WeighsTo (set t n v) (n + 1)
-weighs-more t n v h e w k l = go (dec_lt k n)
+pub weighs_more : (t : List ℕ) (n v : ℕ) → n < length t → v ≡ weight n → WeighsTo t n → WeighsTo (set t n v) (n + 1)
+weighs_more t n v h e w k l = go (dec_lt k n)
   where
     go : Dec (k < n) → get_or (set t n v) k 0 ≡ weight k
     go (yes m) = rw (get_or-set_other t n k v 0 (λ q. omega arith)) (w k m)

@@ -6,7 +6,7 @@ use native.Mathlib.Omega.{arith}
 use lib.ListN.{length, take, drop, take-append-drop}
 use lib.Seq.{length-take-le, ext_get_or}
 use Rattle.rules.specs.declared.Session.{Session}
-use Rattle.frames.specs.Replies.{sessionOf}
+use Rattle.frames.specs.Replies.{session_of}
 use Rattle.frames.specs.Course.{Course, walk}
 use Rattle.frames.specs.Walks.{Walks}
 use Rattle.frames.specs.Weights.{Weighs}
@@ -15,9 +15,9 @@ use Rattle.frames.specs.declared.text.Walked.{Walked}
 abbrev walked : Session → ℕ → ℕ → Walked
 walked s from at = record { standing = record { opened = s.opened; number = s.number; station = s.station }; from = from; at = at }
 
-pub one-walk : (s : Session) (text before : List ℕ) (r r' : Walked) (queue queue' out out' : List ℕ)
+pub one_walk : (s : Session) (text before : List ℕ) (r r' : Walked) (queue queue' out out' : List ℕ)
     → Walks s text r queue before out → Walks s text r' queue' before out' → (r ≡ r') × (queue ≡ queue') × (out ≡ out')
-one-walk s text before r r' queue queue' out out' w w' =
+one_walk s text before r r' queue queue' out out' w w' =
     let from = w.from ∙ sym w'.from in
     let course = sym w.course ∙ ap (λ (n : ℕ). walk s [] (take n text)) from ∙ w'.course in
     let session = ap (λ (c : Course). c.session) course in let answers = ap (λ (c : Course). c.text) course in

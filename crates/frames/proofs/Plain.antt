@@ -6,7 +6,7 @@ use mathlib.Core.List.{List}
 use native.Mathlib.Nat.{add-zero}
 use native.Mathlib.Decide.{dec_lt}
 use native.Mathlib.Omega.{arith}
-use borrow.Author.Tests.{eqb-true, eqb-false, not-false}
+use borrow.Author.Tests.{eqb-true, eqb-false, not_false}
 use lib.Dec.{eqb}
 use lib.ListN.{length, get_or}
 use Rattle.frames.specs.Course.{LineEnd}
@@ -31,25 +31,25 @@ module _ (s : List ℕ) (i : ℕ) where
   more : (n : ℕ) → Plain s i n → (get_or s (i + n) 0 ≡ 10 → ⊥) → Plain s i (n + 1)
   more n f g = joined n 1 f (λ k h l e. let q : k ≡ i + n = omega arith in g (rw q at e))
 
-  two-plain : eqb (get_or s i 0) 10 || eqb (get_or s (i + 1) 0) 10 ≡ false → Plain s i 2
-  two-plain e =
+  two_plain : eqb (get_or s i 0) 10 || eqb (get_or s (i + 1) 0) 10 ≡ false → Plain s i 2
+  two_plain e =
       let p = both _ _ e in let n0 : get_or s (i + 0) 0 ≡ 10 → ⊥ = rw add-zero (eqb-false _ _ p.0) in
       more 1 (more 0 (λ k h l e. omega arith) n0) (eqb-false _ _ p.1)
 
-  pub eight-plain :
+  pub eight_plain :
       eqb (get_or s i 0) 10 || eqb (get_or s (i + 1) 0) 10 || eqb (get_or s (i + 2) 0) 10 || eqb (get_or s (i + 3) 0) 10
       || eqb (get_or s (i + 4) 0) 10 || eqb (get_or s (i + 5) 0) 10 || eqb (get_or s (i + 6) 0) 10 || eqb (get_or s (i + 7) 0) 10 ≡ false
       → Plain s i 8
-  eight-plain e =
+  eight_plain e =
       let p7 = both _ _ e in let p6 = both _ _ p7.0 in let p5 = both _ _ p6.0 in let p4 = both _ _ p5.0 in
       let p3 = both _ _ p4.0 in let p2 = both _ _ p3.0 in
-      more 7 (more 6 (more 5 (more 4 (more 3 (more 2 (two-plain p2.0)
+      more 7 (more 6 (more 5 (more 4 (more 3 (more 2 (two_plain p2.0)
       (eqb-false _ _ p2.1)) (eqb-false _ _ p3.1)) (eqb-false _ _ p4.1))
       (eqb-false _ _ p5.1)) (eqb-false _ _ p6.1)) (eqb-false _ _ p7.1)
 
   -- and those before them
-  pub eight-more : (from : ℕ) → ((k : ℕ) → k < i → from ≤ k → get_or s k 0 ≡ 10 → ⊥) → Plain s i 8 → (k : ℕ) → k < i + 8 → from ≤ k → get_or s k 0 ≡ 10 → ⊥
-  eight-more from f g k h l e = go (dec_lt k i)
+  pub eight_more : (from : ℕ) → ((k : ℕ) → k < i → from ≤ k → get_or s k 0 ≡ 10 → ⊥) → Plain s i 8 → (k : ℕ) → k < i + 8 → from ≤ k → get_or s k 0 ≡ 10 → ⊥
+  eight_more from f g k h l e = go (dec_lt k i)
     where
       go : Dec (k < i) → ⊥
       go (yes p) = f k p l e
@@ -61,11 +61,11 @@ module _ (s : List ℕ) (i : ℕ) where
 
   -- the first two tested, and then the third, and then eight in one and the twelfth
   module _ (first : eqb (get_or s i 0) 10 || eqb (get_or s (i + 1) 0) 10 ≡ false) where
-    pub two-end : get_or s (i + 2) 0 ≡ 10 → i + 2 < length s → LineEnd s i (i + 2)
-    two-end e h = plain_end 2 (two-plain first) h e
+    pub two_end : get_or s (i + 2) 0 ≡ 10 → i + 2 < length s → LineEnd s i (i + 2)
+    two_end e h = plain_end 2 (two_plain first) h e
 
-    pub eleven-end : (early : Bool) → (get_or s (i + 2) 0 ≡ 10 → ⊥) → (early ≡ false → Plain s (i + 3) 8)
+    pub eleven_end : (early : Bool) → (get_or s (i + 2) 0 ≡ 10 → ⊥) → (early ≡ false → Plain s (i + 3) 8)
         → early || not (eqb (get_or s (i + 11) 0) 10) ≡ false → i + 11 < length s → LineEnd s i (i + 11)
-    eleven-end early n f e h =
+    eleven_end early n f e h =
         let p = both _ _ e in
-        plain_end 11 (joined 3 8 (more 2 (two-plain first) n) (f p.0)) h (eqb-true _ _ (not-false _ p.1))
+        plain_end 11 (joined 3 8 (more 2 (two_plain first) n) (f p.0)) h (eqb-true _ _ (not_false _ p.1))

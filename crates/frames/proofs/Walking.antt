@@ -11,9 +11,9 @@ use lib.ListN.{length, take, drop, get_or, length-drop}
 use lib.Seq.{append_snoc, take_all, take-suc, take-add, split_at, length-take-le, get_or-take, get_or-drop, drop-drop, paste, take-paste, drop-paste}
 use borrow.Author.Tests.{ne_eqb, ltb-true, ltb-false, leb-true, leb-false}
 use Rattle.rules.specs.Tests.{pick, within as from-to}
-use Rattle.rules.specs.Calls.{answerValues, openCall, outcome}
-use Rattle.rules.specs.Frames.{printed, reply, readingReply, frameReply, numberReply, seedOf, foundReply, tableReply, readLine}
-use Rattle.rules.specs.Tables.{lookUp}
+use Rattle.rules.specs.Calls.{answer_values, open_call, outcome}
+use Rattle.rules.specs.Frames.{printed, reply, reading_reply, frame_reply, number_reply, seed_of, found_reply, table_reply, read_line}
+use Rattle.rules.specs.Tables.{look_up}
 use Rattle.rules.specs.declared.Found.{Found}
 use Rattle.rules.specs.declared.Found.TheVariants as found
 use Rattle.rules.specs.declared.Optional.{Optional}
@@ -24,7 +24,7 @@ use Rattle.rules.specs.declared.Reading.{Reading}
 use Rattle.rules.specs.declared.Reading.TheVariants.{Read, Bad}
 use Rattle.rules.specs.declared.Session.{Session}
 use Rattle.rules.specs.declared.Values.{Values}
-use Rattle.frames.specs.Replies.{Gives, sessionOf}
+use Rattle.frames.specs.Replies.{Gives, session_of}
 use Rattle.frames.specs.declared.session.Standing.{Standing}
 use Rattle.frames.specs.Course.{Course, after, walk, gone, LineEnd}
 
@@ -44,52 +44,52 @@ stops from n left e = go (ltb from n) (leb 33 left) (ltb-false from n) (leb-fals
     go false b f g e = inl (f refl)
 
 -- every answer has 33 characters
-printed-length : (v : Values) → length (printed v) ≡ 33
+printed_length : (v : Values) → length (printed v) ≡ 33
 unfolding printed
-printed-length v = refl
+printed_length v = refl
 
-found-length : (s : Session) (seed : ℕ) (f : Found) → length (foundReply s seed f).text ≡ 33
-found-length s seed (found.Plan p) = printed-length _
-found-length s seed found.Absent = printed-length _
+found_length : (s : Session) (seed : ℕ) (f : Found) → length (found_reply s seed f).text ≡ 33
+found_length s seed (found.Plan p) = printed_length _
+found_length s seed found.Absent = printed_length _
 
-table-length : (s : Session) (seed : Optional) (f : Found) → length (tableReply s seed f).text ≡ 33
-table-length s (Given seed) f = found-length s seed f
-table-length s LeftOff f = printed-length _
+table_length : (s : Session) (seed : Optional) (f : Found) → length (table_reply s seed f).text ≡ 33
+table_length s (Given seed) f = found_length s seed f
+table_length s LeftOff f = printed_length _
 
-number-length : (b : Bool) (s : Session) (number : ℕ) → length (numberReply b s number).text ≡ 33
-number-length true s number = printed-length _
-number-length false s number = printed-length _
+number_length : (b : Bool) (s : Session) (number : ℕ) → length (number_reply b s number).text ≡ 33
+number_length true s number = printed_length _
+number_length false s number = printed_length _
 
-frame-length : (b : Bool) (s : Session) (f : Frame) → length (frameReply b s f).text ≡ 33
-frame-length true s (Open p seed) = printed-length _
-frame-length false s (Open p seed) = printed-length _
-frame-length true s (OpenTable kind letter aql period seed) = printed-length _
-frame-length false s (OpenTable kind letter aql period seed) = table-length s (seedOf seed s.number) (lookUp kind letter aql period)
-frame-length true s (StationNumber number) = printed-length _
-frame-length false s (StationNumber number) = number-length (from-to 1 number 65535) s number
-frame-length b s (Skip state m) = printed-length _
-frame-length true s (Call c) = printed-length _
-frame-length false s (Call c) = printed-length _
+frame_length : (b : Bool) (s : Session) (f : Frame) → length (frame_reply b s f).text ≡ 33
+frame_length true s (Open p seed) = printed_length _
+frame_length false s (Open p seed) = printed_length _
+frame_length true s (OpenTable kind letter aql period seed) = printed_length _
+frame_length false s (OpenTable kind letter aql period seed) = table_length s (seed_of seed s.number) (look_up kind letter aql period)
+frame_length true s (StationNumber number) = printed_length _
+frame_length false s (StationNumber number) = number_length (from-to 1 number 65535) s number
+frame_length b s (Skip state m) = printed_length _
+frame_length true s (Call c) = printed_length _
+frame_length false s (Call c) = printed_length _
 
-reading-length : (s : Session) (r : Reading) → length (readingReply s r).text ≡ 33
-reading-length s Bad = printed-length _
-reading-length s (Read f) = frame-length s.opened s f
+reading_length : (s : Session) (r : Reading) → length (reading_reply s r).text ≡ 33
+reading_length s Bad = printed_length _
+reading_length s (Read f) = frame_length s.opened s f
 
-reply-length : (s : Session) (line : List ℕ) → length (reply s line).text ≡ 33
-reply-length s line = reading-length s (readLine line)
+reply_length : (s : Session) (line : List ℕ) → length (reply s line).text ≡ 33
+reply_length s line = reading_length s (read_line line)
 
 -- an answer that was put: it follows the answers before it, and what is behind it is as it was
 module _ (s : Session) (line before : List ℕ) (at : ℕ) (out : List ℕ) (h : at + 33 ≤ length before) (e : out ≡ paste before at (reply s line).text 33) where
   told : take (at + 33) out ≡ take at before ++ (reply s line).text
   told =
-      let t = (reply s line).text in let n = reply-length s line in
+      let t = (reply s line).text in let n = reply_length s line in
       ap (λ (l : List ℕ). take (at + 33) l) e
       ∙ take-paste before at t 33 (omega arith) (omega arith)
       ∙ ap (λ (l : List ℕ). take at before ++ l) (take_all 33 t (omega arith))
 
   pub behind : (first : List ℕ) → drop at before ≡ drop at first → drop (at + 33) out ≡ drop (at + 33) first
   behind first q =
-      let n = reply-length s line in
+      let n = reply_length s line in
       ap (λ (l : List ℕ). drop (at + 33) l) e
       ∙ drop-paste before at (reply s line).text 33 (omega arith) (omega arith)
       ∙ sym (drop-drop 33 at before) ∙ ap (drop 33) q ∙ drop-drop 33 at first
@@ -123,25 +123,25 @@ over s line (b ∷ l) d f =
     rw (ne_eqb b 10 (f 0 (omega arith)))
     (over s (line ++ b ∷ []) l d (λ k h. f (suc k) (omega arith)) ∙ ap (λ (x : List ℕ). walk s x d) (append_snoc line b l))
 
-gone-over : (room since : ℕ) (l d : List ℕ) → NoFeed l → gone (suc room) since (l ++ 10 ∷ d) ≡ since + length l + 1 + gone room 0 d
+gone_over : (room since : ℕ) (l d : List ℕ) → NoFeed l → gone (suc room) since (l ++ 10 ∷ d) ≡ since + length l + 1 + gone room 0 d
 unfolding gone
-gone-over room since [] d f = rw add-zero
-gone-over room since (b ∷ l) d f =
-    rw (ne_eqb b 10 (f 0 (omega arith))) (gone-over room (since + 1) l d (λ k h. f (suc k) (omega arith)) ∙ omega arith)
+gone_over room since [] d f = rw add-zero
+gone_over room since (b ∷ l) d f =
+    rw (ne_eqb b 10 (f 0 (omega arith))) (gone_over room (since + 1) l d (λ k h. f (suc k) (omega arith)) ∙ omega arith)
 
-pub gone-none : (room since : ℕ) (d : List ℕ) → NoFeed d → gone room since d ≡ 0
+pub gone_none : (room since : ℕ) (d : List ℕ) → NoFeed d → gone room since d ≡ 0
 unfolding gone
-gone-none zero since d f = refl
-gone-none (suc room) since [] f = refl
-gone-none (suc room) since (b ∷ d) f =
-    rw (ne_eqb b 10 (f 0 (omega arith))) (gone-none (suc room) (since + 1) d (λ k h. f (suc k) (omega arith)))
+gone_none zero since d f = refl
+gone_none (suc room) since [] f = refl
+gone_none (suc room) since (b ∷ d) f =
+    rw (ne_eqb b 10 (f 0 (omega arith))) (gone_none (suc room) (since + 1) d (λ k h. f (suc k) (omega arith)))
 
 -- no more is gone over than there is
-pub gone-most : (room since : ℕ) (d : List ℕ) → gone room since d ≤ since + length d
+pub gone_most : (room since : ℕ) (d : List ℕ) → gone room since d ≤ since + length d
 unfolding gone
-gone-most zero since d = omega arith
-gone-most (suc room) since [] = omega arith
-gone-most (suc room) since (b ∷ d) = go (eqb b 10) (gone-most room 0 d) (gone-most (suc room) (since + 1) d)
+gone_most zero since d = omega arith
+gone_most (suc room) since [] = omega arith
+gone_most (suc room) since (b ∷ d) = go (eqb b 10) (gone_most room 0 d) (gone_most (suc room) (since + 1) d)
   where
     go : (t : Bool) → gone room 0 d ≤ 0 + length d → gone (suc room) (since + 1) d ≤ since + 1 + length d
         → pick t (since + 1 + gone room 0 d) (gone (suc room) (since + 1) d) ≤ since + length (b ∷ d)
@@ -182,7 +182,7 @@ module _ (text : List ℕ) (from end : ℕ) (e : LineEnd text from end) where
         ∙ ap (λ (l : List ℕ). take from text ++ l) (take-suc (drop from text) (end - from) 0 within ∙ rw feed)
 
     -- a line more
-    one_more : (s₀ s : Session) (before : List ℕ) → walk s₀ [] (take from text) ≡ record { session = s; line = []; text = before }
+    one_more_lem : (s₀ s : Session) (before : List ℕ) → walk s₀ [] (take from text) ≡ record { session = s; line = []; text = before }
         → walk s₀ [] (take (end + 1) text)
         ≡ record {
           session = (reply s (take (end - from) (drop from text))).session;
@@ -190,29 +190,29 @@ module _ (text : List ℕ) (from end : ℕ) (e : LineEnd text from end) where
           text = before ++ (reply s (take (end - from) (drop from text))).text;
         }
     unfolding walk
-    one_more s₀ s before w =
+    one_more_lem s₀ s before w =
         let l = take (end - from) (drop from text) in
         ap (walk s₀ []) upto ∙ joined s₀ [] (take from text) (l ++ 10 ∷ []) ∙ rw (w, over s [] l (10 ∷ []) plain, append-nil)
 
-    pub gone-on : (room : ℕ) → gone (suc room) 0 (drop from text) ≡ end + 1 - from + gone room 0 (drop (end + 1) text)
-    gone-on room =
+    pub gone_on : (room : ℕ) → gone (suc room) 0 (drop from text) ≡ end + 1 - from + gone room 0 (drop (end + 1) text)
+    gone_on room =
         let l = take (end - from) (drop from text) in
         let n : length l ≡ end - from = length-take-le (end - from) (drop from text) (omega (arith, within)) in
-        ap (gone (suc room) 0) ends ∙ gone-over room 0 l (drop (end + 1) text) plain ∙ omega (arith, e.low)
+        ap (gone (suc room) 0) ends ∙ gone_over room 0 l (drop (end + 1) text) plain ∙ omega (arith, e.low)
 
     pub went : (s₀ : Session) (s : Session) (r : Standing) (queue before : List ℕ) (at : ℕ) (out : List ℕ) → at + 33 ≤ length before
         → walk s₀ [] (take from text) ≡ record { session = s; line = []; text = take at before }
         → Gives (reply s (take (end - from) (drop from text))) r queue before at out
-        → walk s₀ [] (take (end + 1) text) ≡ record { session = sessionOf r queue; line = []; text = take (at + 33) out }
+        → walk s₀ [] (take (end + 1) text) ≡ record { session = session_of r queue; line = []; text = take (at + 33) out }
     went s₀ s r queue before at out i w g =
-        one_more s₀ s (take at before) w ∙ rw (g.session, told s (take (end - from) (drop from text)) before at out i g.text)
+        one_more_lem s₀ s (take at before) w ∙ rw (g.session, told s (take (end - from) (drop from text)) before at out i g.text)
 
 -- nothing more is gone over where no character is left, or no room
-pub gone-last : (text : List ℕ) (from room : ℕ) → (length text ≤ from) ⊎ (room ≡ 0) → gone room 0 (drop from text) ≡ 0
+pub gone_last : (text : List ℕ) (from room : ℕ) → (length text ≤ from) ⊎ (room ≡ 0) → gone room 0 (drop from text) ≡ 0
 unfolding gone
-gone-last text from room (inl h) = gone-none room 0 (drop from text) (λ k l q. let i = simp length-drop at l in omega arith)
-gone-last text from room (inr e) = rw e
+gone_last text from room (inl h) = gone_none room 0 (drop from text) (λ k l q. let i = simp length-drop at l in omega arith)
+gone_last text from room (inr e) = rw e
 
-pub all-gone : (text : List ℕ) (from left : ℕ) → (length text ≤ from) ⊎ (left / 33 ≡ 0) → 33 ≤ left → NoFeed (drop from text)
-all-gone text from left (inl h) r k l q = let i = simp length-drop at l in omega arith
-all-gone text from left (inr e) r k l q = omega arith
+pub all_gone : (text : List ℕ) (from left : ℕ) → (length text ≤ from) ⊎ (left / 33 ≡ 0) → 33 ≤ left → NoFeed (drop from text)
+all_gone text from left (inl h) r k l q = let i = simp length-drop at l in omega arith
+all_gone text from left (inr e) r k l q = omega arith

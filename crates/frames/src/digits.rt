@@ -1,6 +1,6 @@
 // Upper-case hex digits, read and printed.
 ghost use Rattle.std.specs.Prelude.{◌≡◌, ◌+◌, ◌≤◌, ◌^◌, length};
-ghost use Rattle.rules.specs.Frames.{glyph, twoDigits, eightDigits, hex};
+ghost use Rattle.rules.specs.Frames.{glyph, two_digits, eight_digits, hex};
 ghost use Rattle.frames.specs.Weights.{weight, sum, limited, Weighs};
 
 // What a byte that is no digit weighs: more than any eight digits.
@@ -90,14 +90,14 @@ fn glyph(v: u32) -> u8
 }
 
 pub fn two_digits(v: u8) -> [u8; 2]
-    ensures { result ≡ twoDigits v }
+    ensures { result ≡ two_digits v }
 {
     let w = v as u32;
     [glyph(w / 16), glyph(w)]
 }
 
 pub fn eight_digits(v: u32) -> [u8; 8]
-    ensures { result ≡ eightDigits v }
+    ensures { result ≡ eight_digits v }
 {
     [
         glyph(v / 268435456),

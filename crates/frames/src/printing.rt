@@ -2,14 +2,14 @@
 ghost use Rattle.std.specs.Prelude.{◌≡◌, ◌+◌, ◌≤◌, length};
 ghost use Rattle.std.proofs.Math.Seq.{paste};
 ghost use Rattle.rules.specs.Sound.{one};
-ghost use Rattle.rules.specs.Calls.{refusalNumber, values, answerValues};
-ghost use Rattle.rules.specs.Frames.{printed, answerLine};
+ghost use Rattle.rules.specs.Calls.{refusal_number, values, answer_values};
+ghost use Rattle.rules.specs.Frames.{printed, answer_line};
 
 use crate::digits::{eight_digits, two_digits};
 use rules::{Answer, Refusal, Values};
 
 fn refusal_number(r: Refusal) -> u8
-    ensures { result ≡ refusalNumber r }
+    ensures { result ≡ refusal_number r }
 {
     match r {
         Refusal::QueueMemory => 1,
@@ -45,7 +45,7 @@ fn values(refusal: u8, kind: u8, number: u32, unit: u32, value: u32) -> Values
 }
 
 pub fn answer_values(a: Answer) -> Values
-    ensures { result ≡ answerValues a }
+    ensures { result ≡ answer_values a }
 {
     match a {
         Answer::Refused(r) => values(refusal_number(r), 0, 0, 0, 0),
@@ -90,7 +90,7 @@ fn inspect_line() -> [u8; 33]
 }
 
 fn refusal_line(r: Refusal) -> [u8; 33]
-    ensures { result ≡ answerLine (Answer.Refused r) }
+    ensures { result ≡ answer_line (Answer.Refused r) }
 {
     let n = two_digits(refusal_number(r));
     let mut line = done_line();
@@ -100,7 +100,7 @@ fn refusal_line(r: Refusal) -> [u8; 33]
 }
 
 pub fn answer_line(a: Answer) -> [u8; 33]
-    ensures { result ≡ answerLine a }
+    ensures { result ≡ answer_line a }
 {
     printed(answer_values(a))
 }
@@ -124,7 +124,7 @@ pub fn put_line(out: &mut [u8], at: usize, line: [u8; 33])
 
 fn put_order(out: &mut [u8], at: usize, inspect: bool)
     requires { at + 33 ≤ length out.old }
-    ensures { out.new ≡ paste out.old at (answerLine (Answer.Ordered inspect)) 33 }
+    ensures { out.new ≡ paste out.old at (answer_line (Answer.Ordered inspect)) 33 }
 {
     if inspect {
         put_line(out, at, inspect_line());
@@ -135,7 +135,7 @@ fn put_order(out: &mut [u8], at: usize, inspect: bool)
 
 pub fn put_refusal(out: &mut [u8], at: usize, r: Refusal)
     requires { at + 33 ≤ length out.old }
-    ensures { out.new ≡ paste out.old at (answerLine (Answer.Refused r)) 33 }
+    ensures { out.new ≡ paste out.old at (answer_line (Answer.Refused r)) 33 }
 {
     put_line(out, at, refusal_line(r))
 }
@@ -143,7 +143,7 @@ pub fn put_refusal(out: &mut [u8], at: usize, r: Refusal)
 // Each answer is put by its own arm, straight into the output.
 pub fn put_answer(out: &mut [u8], at: usize, a: Answer)
     requires { at + 33 ≤ length out.old }
-    ensures { out.new ≡ paste out.old at (answerLine a) 33 }
+    ensures { out.new ≡ paste out.old at (answer_line a) 33 }
 {
     match a {
         Answer::Refused(r) => put_refusal(out, at, r),

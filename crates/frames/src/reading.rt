@@ -1,6 +1,6 @@
 // The frame that a line is.
 ghost use Rattle.std.specs.Prelude.{◌≡◌, ◌+◌, ◌*◌, ◌≤◌, length};
-ghost use Rattle.rules.specs.Frames.{hex, word, spaced, bareFrame, oneWordFrame, twoWordFrame, tableFrame, seededFrame, planFrame, sevenWordFrame, frame_of, readLine};
+ghost use Rattle.rules.specs.Frames.{hex, word, spaced, bare_frame, one_word_frame, two_word_frame, table_frame, seeded_frame, plan_frame, seven_word_frame, frame_of, read_line};
 ghost use Rattle.frames.specs.Weights.{Weighs};
 
 use crate::digits;
@@ -23,7 +23,7 @@ fn word(weights: &[u64], line: &[u8], j: usize) -> u64
 }
 
 fn bare_frame(code: u64) -> Reading
-    ensures { result ≡ bareFrame code }
+    ensures { result ≡ bare_frame code }
 {
     if code == 4 {
         return Reading::Read(Frame::Call(Call::Interrupt));
@@ -41,7 +41,7 @@ fn bare_frame(code: u64) -> Reading
 }
 
 fn one_word_frame(code: u64, a: u64) -> Reading
-    ensures { result ≡ oneWordFrame code a }
+    ensures { result ≡ one_word_frame code a }
 {
     if NONE <= a {
         return Reading::Bad;
@@ -60,7 +60,7 @@ fn one_word_frame(code: u64, a: u64) -> Reading
 
 // A state, and how many steps to skip from it.
 fn two_word_frame(code: u64, a: u64, b: u64) -> Reading
-    ensures { result ≡ twoWordFrame code a b }
+    ensures { result ≡ two_word_frame code a b }
 {
     if code != 14 {
         return Reading::Bad;
@@ -78,7 +78,7 @@ fn two_word_frame(code: u64, a: u64, b: u64) -> Reading
 }
 
 fn table_frame(code: u64, kind: u64, letter: u64, aql: u64, period: u64, seed: Optional) -> Reading
-    ensures { result ≡ tableFrame code kind letter aql period seed }
+    ensures { result ≡ table_frame code kind letter aql period seed }
 {
     if code != 8 {
         return Reading::Bad;
@@ -105,7 +105,7 @@ fn table_frame(code: u64, kind: u64, letter: u64, aql: u64, period: u64, seed: O
 }
 
 fn seeded_frame(code: u64, kind: u64, letter: u64, aql: u64, period: u64, seed: u64) -> Reading
-    ensures { result ≡ seededFrame code kind letter aql period seed }
+    ensures { result ≡ seeded_frame code kind letter aql period seed }
 {
     if NONE <= seed {
         return Reading::Bad;
@@ -116,7 +116,7 @@ fn seeded_frame(code: u64, kind: u64, letter: u64, aql: u64, period: u64, seed: 
 
 // A plan and a seed, or a plan and 0 or 1, on demand.
 fn plan_frame(code: u64, plan: Plan, last: u32) -> Reading
-    ensures { result ≡ planFrame code plan last }
+    ensures { result ≡ plan_frame code plan last }
 {
     if code == 1 {
         return Reading::Read(Frame::Open {
@@ -143,7 +143,7 @@ fn seven_word_frame(
     period: u64,
     last: u64,
 ) -> Reading
-    ensures { result ≡ sevenWordFrame code kind n i s x period last }
+    ensures { result ≡ seven_word_frame code kind n i s x period last }
 {
     if NONE <= kind {
         return Reading::Bad;
@@ -222,7 +222,7 @@ fn longer_frame(weights: &[u64], line: &[u8]) -> Reading
 // so that a longer line needs no test of its own.
 pub fn read_line(weights: &[u64], line: &[u8]) -> Reading
     requires { Weighs weights.now }
-    ensures { result ≡ readLine line.now }
+    ensures { result ≡ read_line line.now }
 {
     let n = line.len();
     if n == 11 {

@@ -1,10 +1,10 @@
 // A run of the program: the station, its queue, and what a line makes of them. The queue is lent: no line copies it.
 ghost use Rattle.std.specs.Prelude.{◌≡◌, true, false, List, ℕ, ◌+◌, ◌≤◌, length};
 ghost use Rattle.rules.specs.Tests.{within};
-ghost use Rattle.rules.specs.Calls.{openCall, outcome};
-ghost use Rattle.rules.specs.Frames.{newSession, answerLine, accepted, openReply, replyWith, numberReply, seedOf, foundReply, tableReply, skipReply, frameReply, reply};
+ghost use Rattle.rules.specs.Calls.{open_call, outcome};
+ghost use Rattle.rules.specs.Frames.{new_session, answer_line, accepted, open_reply, reply_with, number_reply, seed_of, found_reply, table_reply, skip_reply, frame_reply, reply};
 ghost use Rattle.std.proofs.Math.Seq.{paste};
-ghost use Rattle.frames.specs.Replies.{Gives, sessionOf, newStanding};
+ghost use Rattle.frames.specs.Replies.{Gives, session_of, new_standing};
 ghost use Rattle.frames.specs.Weights.{Weighs};
 
 use crate::printing::{answer_line, put_answer, put_line, put_refusal, value_line};
@@ -20,7 +20,7 @@ pub struct Standing {
 }
 
 pub fn new_standing() -> Standing
-    ensures { result ≡ newStanding }
+    ensures { result ≡ new_standing }
 {
     let station = station::no_station();
     Standing {
@@ -31,7 +31,7 @@ pub fn new_standing() -> Standing
 }
 
 pub fn new_queue() -> [u32; 24]
-    ensures { result ≡ newSession.queue }
+    ensures { result ≡ new_session.queue }
 {
     [0u32; 24]
 }
@@ -56,7 +56,7 @@ fn open_reply(
     at: usize,
 ) -> Standing
     requires { at + 33 ≤ length out.old }
-    ensures { Gives (openReply (sessionOf s q.old) (openCall plan seed q.old)) result q.new out.old at out.new }
+    ensures { Gives (open_reply (session_of s q.old) (open_call plan seed q.old)) result q.new out.old at out.new }
 {
     let turn = station::open(plan, seed, q);
     let answer = turn.answer;
@@ -73,7 +73,7 @@ fn open_reply(
 // A refusal leaves the standing as it stood.
 fn refused_reply(s: Standing, r: Refusal, out: &mut [u8], at: usize) -> Standing
     requires { at + 33 ≤ length out.old }
-    ensures { (result ≡ s) × (out.new ≡ paste out.old at (answerLine (Answer.Refused r)) 33) }
+    ensures { (result ≡ s) × (out.new ≡ paste out.old at (answer_line (Answer.Refused r)) 33) }
 {
     put_refusal(out, at, r);
     s
@@ -82,7 +82,7 @@ fn refused_reply(s: Standing, r: Refusal, out: &mut [u8], at: usize) -> Standing
 // A station number before the open; whatever the queue holds, it stays.
 fn number_reply(s: Standing, number: u32, out: &mut [u8], at: usize) -> Standing
     requires { at + 33 ≤ length out.old }
-    ensures { (queue : List ℕ) → Gives (numberReply (within 1 number 65535) (sessionOf s queue) number) result queue out.old at out.new }
+    ensures { (queue : List ℕ) → Gives (number_reply (within 1 number 65535) (session_of s queue) number) result queue out.old at out.new }
 {
     if (1 <= number) & (number <= 65535) {
         put_answer(out, at, Answer::Done);
@@ -98,7 +98,7 @@ fn number_reply(s: Standing, number: u32, out: &mut [u8], at: usize) -> Standing
 
 // The seed of a table open: the one that is written, or the station number.
 fn seed_of(seed: Optional, number: Optional) -> Optional
-    ensures { result ≡ seedOf seed number }
+    ensures { result ≡ seed_of seed number }
 {
     match seed {
         Optional::Given(_) => seed,
@@ -115,7 +115,7 @@ fn found_reply(
     at: usize,
 ) -> Standing
     requires { at + 33 ≤ length out.old }
-    ensures { Gives (foundReply (sessionOf s q.old) seed found) result q.new out.old at out.new }
+    ensures { Gives (found_reply (session_of s q.old) seed found) result q.new out.old at out.new }
 {
     match found {
         Found::Plan(plan) => open_reply(s, q, plan, seed, out, at),
@@ -132,7 +132,7 @@ fn table_reply(
     at: usize,
 ) -> Standing
     requires { at + 33 ≤ length out.old }
-    ensures { Gives (tableReply (sessionOf s q.old) seed found) result q.new out.old at out.new }
+    ensures { Gives (table_reply (session_of s q.old) seed found) result q.new out.old at out.new }
 {
     match seed {
         Optional::Given(seed) => found_reply(s, q, seed, found, out, at),
@@ -143,7 +143,7 @@ fn table_reply(
 // The state after so many steps: no standing and no queue bears on it, and both stay.
 fn skip_reply(s: Standing, state: u32, m: u32, out: &mut [u8], at: usize) -> Standing
     requires { at + 33 ≤ length out.old }
-    ensures { (queue : List ℕ) → Gives (skipReply (sessionOf s queue) state m) result queue out.old at out.new }
+    ensures { (queue : List ℕ) → Gives (skip_reply (session_of s queue) state m) result queue out.old at out.new }
 {
     put_line(out, at, value_line(draw::skip(state, m)));
     s
@@ -152,7 +152,7 @@ fn skip_reply(s: Standing, state: u32, m: u32, out: &mut [u8], at: usize) -> Sta
 // Before an accepted open only an open, a station number and a skip are taken.
 fn first_reply(s: Standing, q: &mut [u32], frame: Frame, out: &mut [u8], at: usize) -> Standing
     requires { at + 33 ≤ length out.old }
-    ensures { Gives (frameReply false (sessionOf s q.old) frame) result q.new out.old at out.new }
+    ensures { Gives (frame_reply false (session_of s q.old) frame) result q.new out.old at out.new }
 {
     match frame {
         Frame::Open { plan, seed } => open_reply(s, q, plan, seed, out, at),
@@ -175,7 +175,7 @@ fn first_reply(s: Standing, q: &mut [u32], frame: Frame, out: &mut [u8], at: usi
 
 fn call_reply(s: Standing, q: &mut [u32], call: Call, out: &mut [u8], at: usize) -> Standing
     requires { at + 33 ≤ length out.old }
-    ensures { Gives (replyWith true (sessionOf s q.old) (outcome call s.station q.old)) result q.new out.old at out.new }
+    ensures { Gives (reply_with true (session_of s q.old) (outcome call s.station q.old)) result q.new out.old at out.new }
 {
     let turn = station::outcome(call, s.station, q);
     let answer = turn.answer;
@@ -200,7 +200,7 @@ pub fn step(
     at: usize,
 ) -> Standing
     requires { Weighs weights.now × (at + 33 ≤ length out.old) }
-    ensures { Gives (reply (sessionOf s q.old) line.now) result q.new out.old at out.new }
+    ensures { Gives (reply (session_of s q.old) line.now) result q.new out.old at out.new }
 {
     let read = read_line(weights, line);
     let Reading::Read(frame) = read else {

@@ -1,6 +1,6 @@
 // What a text makes of the session, and the answers to the lines that end in it.
 ghost use Rattle.std.specs.Prelude.{◌≡◌, ◌≤◌, length};
-ghost use Rattle.frames.specs.Replies.{sessionOf};
+ghost use Rattle.frames.specs.Replies.{session_of};
 ghost use Rattle.frames.specs.Walks.{Walks};
 ghost use Rattle.frames.specs.Weights.{Weighs};
 
@@ -26,7 +26,7 @@ fn walk_lines(
     out: &mut [u8],
 ) -> Walked
     requires { Weighs weights.now }
-    ensures { Walks (sessionOf standing q.old) text.now result q.new out.old out.new }
+    ensures { Walks (session_of standing q.old) text.now result q.new out.old out.new }
 {
     let mut s = standing;
     let mut from = 0;
@@ -60,7 +60,7 @@ pub fn walk(
     text: &[u8],
     out: &mut [u8],
 ) -> Walked
-    ensures { Walks (sessionOf standing q.old) text.now result q.new out.old out.new × Weighs weights.new }
+    ensures { Walks (session_of standing q.old) text.now result q.new out.old out.new × Weighs weights.new }
 {
     fill(weights);
     walk_lines(standing, q, weights, text, out)

@@ -3,9 +3,9 @@
 // makes the tests of its own type alone, which is fewer instructions than all of them joined without a branch.
 ghost use Rattle.std.specs.Prelude.{◌≡◌, not, ◌+◌, ◌≤◌, eqb};
 ghost use Rattle.rules.specs.Tests.{pick, within, ◌and◌};
-ghost use Rattle.rules.specs.Plan.{csp1, cspV, clearanceLimit, in_range, unitLimit, roomInRange};
-ghost use Rattle.rules.specs.Change.{notAllowed};
-ghost use Rattle.rules.specs.Sound.{one, soundTally, soundNeed, soundScreening, soundPlaces, rowCounts, levelBegins, soundBegin, soundWatch, soundSampling, soundPhase, onItsSide, soundNext, soundWaiting, soundNumbers, soundSilence, sound};
+ghost use Rattle.rules.specs.Plan.{csp1, csp_v, clearance_limit, in_range, unit_limit, room_in_range};
+ghost use Rattle.rules.specs.Change.{not_allowed};
+ghost use Rattle.rules.specs.Sound.{one, sound_tally, sound_need, sound_screening, sound_places, row_counts, level_begins, sound_begin, sound_watch, sound_sampling, sound_phase, on_its_side, sound_next, sound_waiting, sound_numbers, sound_silence, sound};
 
 use rules::{
     CLEARANCE_LIMIT, CSP_2, CSP_F, CSP_T, CSP_V, EVENTS_END, HIGHEST_UNIT, LONG_LIMIT, Numbers,
@@ -26,7 +26,7 @@ fn in_bounds(low: u32, x: u32, high: u32) -> bool
 
 // The ranges that every type of plan has: of the type, of n and of i.
 fn common_in_range(p: Plan) -> bool
-    ensures { result ≡ (within csp1 p.kind cspV and within 2 p.n 200 and within 1 p.i clearanceLimit) }
+    ensures { result ≡ (within csp1 p.kind csp_v and within 2 p.n 200 and within 1 p.i clearance_limit) }
 {
     in_bounds(1, p.kind, CSP_V) & in_bounds(2, p.n, 200) & in_bounds(1, p.i, CLEARANCE_LIMIT)
 }
@@ -49,7 +49,7 @@ pub fn in_range(p: Plan) -> bool
 
 // The highest unit number of a plan.
 pub fn unit_limit(p: Plan) -> u32
-    ensures { result ≡ unitLimit p }
+    ensures { result ≡ unit_limit p }
 {
     if p.kind == CSP_F {
         p.period
@@ -60,7 +60,7 @@ pub fn unit_limit(p: Plan) -> u32
 
 // Is this no plan to follow the plan in force: another type, CSP-F, or i not on the side of n?
 pub fn not_allowed(p: Plan, q: Plan) -> bool
-    ensures { result ≡ notAllowed p q }
+    ensures { result ≡ not_allowed p q }
 {
     (q.kind != p.kind)
         | (q.kind == CSP_F)
@@ -70,7 +70,7 @@ pub fn not_allowed(p: Plan, q: Plan) -> bool
 
 // Is this a queue's room?
 pub fn room_in_range(room: u32) -> bool
-    ensures { result ≡ roomInRange room }
+    ensures { result ≡ room_in_range room }
 {
     in_bounds(8, room, 4096)
 }
@@ -83,7 +83,7 @@ fn counted(flag: bool) -> u64
 
 // A record from elsewhere may hold any numbers: sums of them are taken in 64 bits.
 fn sound_tally(p: Plan, t: Tally) -> bool
-    ensures { result ≡ soundTally p t }
+    ensures { result ≡ sound_tally p t }
 {
     let sum = (t.conforming as u64)
         + (t.defective as u64)
@@ -94,13 +94,13 @@ fn sound_tally(p: Plan, t: Tally) -> bool
 }
 
 fn sound_need(p: Plan, need: u32) -> bool
-    ensures { result ≡ soundNeed p need }
+    ensures { result ≡ sound_need p need }
 {
     (need == p.i) | ((p.kind == CSP_V) & (need == p.x))
 }
 
 fn sound_screening(p: Plan, t: Tally, c: Screening) -> bool
-    ensures { result ≡ soundScreening p t c }
+    ensures { result ≡ sound_screening p t c }
 {
     sound_need(p, c.need)
         & (c.run < c.need)
@@ -111,7 +111,7 @@ fn sound_screening(p: Plan, t: Tally, c: Screening) -> bool
 }
 
 fn sound_places(len: u64, owed: bool, m: Sampling) -> bool
-    ensures { result ≡ soundPlaces len owed m }
+    ensures { result ≡ sound_places len owed m }
 {
     ((m.place as u64) < len)
         & ((m.chosen as u64) < len)
@@ -120,19 +120,19 @@ fn sound_places(len: u64, owed: bool, m: Sampling) -> bool
 
 // Are conforming samples in a row counted?
 fn row_counts(p: Plan, level: u32) -> bool
-    ensures { result ≡ rowCounts p level }
+    ensures { result ≡ row_counts p level }
 {
     ((p.kind == CSP_T) & (level < 2)) | (p.kind == CSP_V)
 }
 
 fn level_begins(p: Plan, owed: bool, m: Sampling) -> bool
-    ensures { result ≡ levelBegins p owed m }
+    ensures { result ≡ level_begins p owed m }
 {
     row_counts(p, m.level) & (m.row == 0) & (m.place == 0) & !owed
 }
 
 fn sound_begin(p: Plan, owed: bool, m: Sampling) -> bool
-    ensures { result ≡ soundBegin p owed m }
+    ensures { result ≡ sound_begin p owed m }
 {
     !level_begins(p, owed, m) | (m.chosen == 0)
 }
@@ -144,13 +144,13 @@ fn unwatched(m: Sampling) -> bool
 }
 
 fn sound_watch(p: Plan, m: Sampling) -> bool
-    ensures { result ≡ soundWatch p m }
+    ensures { result ≡ sound_watch p m }
 {
     picked((p.kind == CSP_2) & m.watch, m.watched < p.i, unwatched(m))
 }
 
 fn sound_sampling(p: Plan, t: Tally, m: Sampling) -> bool
-    ensures { result ≡ soundSampling p t m }
+    ensures { result ≡ sound_sampling p t m }
 {
     if !sound_places(draw::block_length(p, m.level), t.owed, m) {
         return false;
@@ -171,7 +171,7 @@ fn sound_sampling(p: Plan, t: Tally, m: Sampling) -> bool
 }
 
 fn sound_phase(p: Plan, t: Tally, phase: Phase) -> bool
-    ensures { result ≡ soundPhase p t phase }
+    ensures { result ≡ sound_phase p t phase }
 {
     match phase {
         Phase::Screen(c) => sound_screening(p, t, c),
@@ -181,7 +181,7 @@ fn sound_phase(p: Plan, t: Tally, phase: Phase) -> bool
 
 // In screening a higher frequency waits, in sampling a lower one.
 fn on_its_side(phase: Phase, p: Plan, q: Plan) -> bool
-    ensures { result ≡ onItsSide phase p q }
+    ensures { result ≡ on_its_side phase p q }
 {
     match phase {
         Phase::Screen(_) => (q.n < p.n) & (q.i < p.i),
@@ -190,13 +190,13 @@ fn on_its_side(phase: Phase, p: Plan, q: Plan) -> bool
 }
 
 fn sound_next(p: Plan, phase: Phase, q: Plan) -> bool
-    ensures { result ≡ soundNext p phase q }
+    ensures { result ≡ sound_next p phase q }
 {
     in_range(q) & (q.kind == p.kind) & (q.kind != CSP_F) & on_its_side(phase, p, q)
 }
 
 fn sound_waiting(p: Plan, phase: Phase, w: Waiting) -> bool
-    ensures { result ≡ soundWaiting p phase w }
+    ensures { result ≡ sound_waiting p phase w }
 {
     match w {
         Waiting::NoPlan => true,
@@ -205,7 +205,7 @@ fn sound_waiting(p: Plan, phase: Phase, w: Waiting) -> bool
 }
 
 fn sound_numbers(room: u32, n: Numbers) -> bool
-    ensures { result ≡ soundNumbers room n }
+    ensures { result ≡ sound_numbers room n }
 {
     let next = n.next as u64;
     let full = (n.oldest as u64) + (room as u64);
@@ -221,7 +221,7 @@ fn sound_numbers(room: u32, n: Numbers) -> bool
 }
 
 fn sound_silence(q: Silence, n: Numbers) -> bool
-    ensures { result ≡ soundSilence q n }
+    ensures { result ≡ sound_silence q n }
 {
     (q.ticks as u64) + 2 <= (n.next as u64)
 }

@@ -15,9 +15,9 @@ module _ (t first : List ℕ) (from k : ℕ) (h : from + k < length first) (n : 
       ∙ ap (λ (d : List ℕ). get_or d from 0) rest
       ∙ get_or-drop k first from 0 ∙ ap (λ (i : ℕ). get_or first i 0) (sym c) ∙ sym (get_or-drop from first k 0)
 
-  pub one-moved : (take (k + 1) (set t k (get_or t (from + k) 0)) ≡ take (k + 1) (drop from first))
+  pub one_moved : (take (k + 1) (set t k (get_or t (from + k) 0)) ≡ take (k + 1) (drop from first))
       × (drop (k + 1) (set t k (get_or t (from + k) 0)) ≡ drop (k + 1) first)
-  one-moved =
+  one_moved =
       let d = drop from first in let v = get_or t (from + k) 0 in
       let m : k < length d = simp length-drop (omega arith) in let o : k < length t = omega arith in (
         rw add-one (take-suc-set t k v o ∙ rw (front, same) (sym (take-suc d k 0 m))),

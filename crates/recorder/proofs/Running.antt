@@ -6,11 +6,11 @@ use mathlib.Core.Logic.{◌⊎◌, inl, inr}
 use Prim.Native.Nat.{ℕ}
 use native.Mathlib.Omega.{arith}
 use lib.ListN.{take}
-use Rattle.rules.specs.Frames.{newSession}
+use Rattle.rules.specs.Frames.{new_session}
 use Rattle.rules.specs.declared.Session.{Session}
 use Rattle.frames.specs.Course.{after}
-use Rattle.frames.specs.Replies.{sessionOf}
-use Rattle.recorder.specs.Course.{heldMost, turn, turns, course}
+use Rattle.frames.specs.Replies.{session_of}
+use Rattle.recorder.specs.Course.{held_most, turn, turns, course}
 use Rattle.recorder.specs.Turns.{held, Turns}
 use Rattle.recorder.specs.declared.Turned.{Turned}
 
@@ -19,39 +19,39 @@ more : (s : Session) (line : List ℕ) (parts : List (List ℕ)) (part : List �
     → turns s line (parts ++ part ∷ [])
     ≡ record {
       session = (turn false (turns s line parts).session (turns s line parts).line part).session;
-      line = take heldMost (turn false (turns s line parts).session (turns s line parts).line part).line;
+      line = take held_most (turn false (turns s line parts).session (turns s line parts).line part).line;
       text = (turns s line parts).text ++ (turn false (turns s line parts).session (turns s line parts).line part).text;
     }
 unfolding turns
 more s line [] part = rw append-nil
 more s line (p ∷ parts) part =
     let w = turn false s line p in
-    ap (after w.text) (more w.session (take heldMost w.line) parts part) ∙ rw append_assoc
+    ap (after w.text) (more w.session (take held_most w.line) parts part) ∙ rw append_assoc
 
 -- where the program stands after its turns went over some parts
 pub record Stands (parts : List (List ℕ)) (r : Turned) (queue text : List ℕ) : Type 0 where
-  pub session : sessionOf r.standing queue ≡ (course parts).session
+  pub session : session_of r.standing queue ≡ (course parts).session
   pub line : take (held r) text ≡ (course parts).line
 
 -- the next turn, and where the program stands after it if it is not the last
 module _ (parts : List (List ℕ)) (part : List ℕ) (t r : Turned) (queue text queue' text' out : List ℕ) (k : Stands parts t queue text) where
-  pub next-turn : (over : Bool) → Turns (turn over (sessionOf t.standing queue) (take (held t) text) part) r queue' text' out
+  pub next_turn : (over : Bool) → Turns (turn over (session_of t.standing queue) (take (held t) text) part) r queue' text' out
       → Turns (turn over (course parts).session (course parts).line part) r queue' text' out
-  next-turn over w = rw (← k.session, ← k.line) w
+  next_turn over w = rw (← k.session, ← k.line) w
 
   pub went_on : (over : Bool) → over ≡ false
-      → Turns (turn over (sessionOf t.standing queue) (take (held t) text) part) r queue' text' out
+      → Turns (turn over (session_of t.standing queue) (take (held t) text) part) r queue' text' out
       → Stands (parts ++ part ∷ []) r queue' text'
   went_on false e w =
-      let v = next-turn false w in
-      record { session = rw (more newSession [] parts part) v.session; line = rw (more newSession [] parts part) v.line }
+      let v = next_turn false w in
+      record { session = rw (more new_session [] parts part) v.session; line = rw (more new_session [] parts part) v.line }
   went_on true e w = let z : ◌≡◌ {A = ℕ} 0 1 = cc in absurd (omega arith)
 
 -- why a turn is the last
-pub why-last : (over all spent : Bool) (P : Type 0) → (spent ≡ true → P) → (over || not all || spent) ≡ true → (over ≡ true) ⊎ (all ≡ false) ⊎ P
-why-last true all spent P f e = inl refl
-why-last false false spent P f e = inr (inl refl)
-why-last false true spent P f e = inr (inr (f e))
+pub why_last : (over all spent : Bool) (P : Type 0) → (spent ≡ true → P) → (over || not all || spent) ≡ true → (over ≡ true) ⊎ (all ≡ false) ⊎ P
+why_last true all spent P f e = inl refl
+why_last false false spent P f e = inr (inl refl)
+why_last false true spent P f e = inr (inr (f e))
 
 pub neither : (a b : Bool) → (a || b) ≡ false → (a ≡ false) × (b ≡ false)
 neither true b e = (cc, cc)

@@ -10,46 +10,46 @@ use lib.ListN.{length, take, drop, get_or, length-take, take-append-drop}
 use lib.Seq.{take_all, take-take, take-append-le, take-append-add, take-add, drop_at, drop-append-add, length-take-le, get_or-take, paste, take-paste, length-paste, slice_empty}
 use borrow.Author.Tests.{ltb-true, ltb-false}
 use Rattle.rules.specs.Tests.{pick}
-use Rattle.rules.specs.Frames.{lastText}
+use Rattle.rules.specs.Frames.{last_text}
 use Rattle.rules.specs.declared.Session.{Session}
 use Rattle.frames.specs.Course.{Course, after, walk}
-use Rattle.frames.specs.Replies.{sessionOf}
+use Rattle.frames.specs.Replies.{session_of}
 use Rattle.frames.specs.Walks.{Walks}
 use Rattle.frames.specs.declared.text.Walked.{Walked}
-use Rattle.frames.proofs.Walking.{NoFeed, joined, over, gone-most}
-use Rattle.recorder.specs.Course.{heldMost}
-use Rattle.recorder.specs.Turns.{Moves, Brings, Hands, Ends, Answers, noRoom, held, left, Ready, Goes}
+use Rattle.frames.proofs.Walking.{NoFeed, joined, over, gone_most}
+use Rattle.recorder.specs.Course.{held_most}
+use Rattle.recorder.specs.Turns.{Moves, Brings, Hands, Ends, Answers, no_room, held, left, Ready, Goes}
 use Rattle.recorder.specs.declared.Moved.{Moved}
 use Rattle.recorder.specs.declared.Handed.{Handed}
 use Rattle.recorder.specs.declared.Turned.{Turned}
 
-true-false : true ≡ false → ⊥
-true-false e = let z : ◌≡◌ {A = ℕ} 0 1 = cc in omega arith
+true_false : true ≡ false → ⊥
+true_false e = let z : ◌≡◌ {A = ℕ} 0 1 = cc in omega arith
 
 -- the test as it is made
-pub no_room : (over : Bool) (n at : ℕ) → not over && ltb (n - at) 33 ≡ noRoom over n at
-no_room true n at = refl
-no_room false n at = refl
+pub no_room_lem : (over : Bool) (n at : ℕ) → not over && ltb (n - at) 33 ≡ no_room over n at
+no_room_lem true n at = refl
+no_room_lem false n at = refl
 
 -- a walk over a line that is held and what has come behind it
 module _ (s : Session) (line came : List ℕ) (f : NoFeed line) (w : Walked) (queue before out : List ℕ) (k : Walks s (line ++ came) w queue before out) where
   -- all has room: the rest is the line that has not ended
-  pub all-gone : NoFeed (drop w.from (line ++ came))
-      → walk s line came ≡ record { session = sessionOf w.standing queue; line = drop w.from (line ++ came); text = take w.at out }
+  pub all_gone : NoFeed (drop w.from (line ++ came))
+      → walk s line came ≡ record { session = session_of w.standing queue; line = drop w.from (line ++ came); text = take w.at out }
   unfolding walk
-  all-gone g =
+  all_gone g =
       let d = line ++ came in let rest = drop w.from d in
       sym (over s [] line came f)
       ∙ ap (walk s []) (sym (take-append-drop w.from d))
       ∙ joined s [] (take w.from d) rest
-      ∙ rw k.course (ap (λ (x : List ℕ). after (take w.at out) (walk (sessionOf w.standing queue) [] x)) (sym (append-nil rest))
-      ∙ ap (after (take w.at out)) (over (sessionOf w.standing queue) [] rest [] g)
+      ∙ rw k.course (ap (λ (x : List ℕ). after (take w.at out) (walk (session_of w.standing queue) [] x)) (sym (append-nil rest))
+      ∙ ap (after (take w.at out)) (over (session_of w.standing queue) [] rest [] g)
       ∙ rw append-nil)
 
   -- an answer went out: its line feed is behind the line that was held
-  pub line-gone : 0 < w.at → length line ≤ w.from
+  pub line_gone : 0 < w.at → length line ≤ w.from
   unfolding walk
-  line-gone h = go (dec_lt w.from (length line))
+  line_gone h = go (dec_lt w.from (length line))
     where
       go : Dec (w.from < length line) → length line ≤ w.from
       go (no l) = omega arith
@@ -62,21 +62,21 @@ module _ (s : Session) (line came : List ℕ) (f : NoFeed line) (w : Walked) (qu
           absurd (omega arith)
 
   -- some had no room: all that was gone over is lines
-  pub some-gone : length line ≤ w.from
-      → walk s line (take (w.from - length line) came) ≡ record { session = sessionOf w.standing queue; line = []; text = take w.at out }
-  some-gone h =
+  pub some_gone : length line ≤ w.from
+      → walk s line (take (w.from - length line) came) ≡ record { session = session_of w.standing queue; line = []; text = take w.at out }
+  some_gone h =
       let i : length line + (w.from - length line) ≡ w.from = omega arith in
       sym (over s [] line (take (w.from - length line) came) f)
       ∙ ap (walk s []) (sym (take-append-add line came (w.from - length line)) ∙ ap (λ (n : ℕ). take n (line ++ came)) i)
       ∙ k.course
 
   pub within : w.from ≤ length (line ++ came)
-  within = let g = gone-most (length before / 33) 0 (line ++ came) in omega (arith, k.from)
+  within = let g = gone_most (length before / 33) 0 (line ++ came) in omega (arith, k.from)
 
 -- the line that is held is at the front, and the rest of what has come behind it
-pub no-feed : (more : Bool) (to : ℕ) (front : List ℕ) → (more ≡ false → NoFeed (take to front)) → NoFeed (take (pick more 0 to) front)
-no-feed true to front f = λ k h e. absurd (omega arith)
-no-feed false to front f = f refl
+pub no_feed : (more : Bool) (to : ℕ) (front : List ℕ) → (more ≡ false → NoFeed (take to front)) → NoFeed (take (pick more 0 to) front)
+no_feed true to front f = λ k h e. absurd (omega arith)
+no_feed false to front f = f refl
 
 pub in_two : (more : Bool) (to : ℕ) (front new : List ℕ)
     → take (pick more 0 to) front ++ (drop (pick more 0 to) (take to front) ++ new) ≡ take to front ++ new
@@ -111,60 +111,60 @@ module _ (s : Session) (line came : List ℕ) (f : NoFeed line) (w : Walked) (qu
   behind : drop w.from (line ++ came) ≡ take (to - w.from) (drop w.from text)
   behind = ap (drop w.from) (sym e) ∙ rest w.from to text (omega (arith, input, within s line came f w queue before out k)) m
 
-  goes-all : (n : ℕ) → n ≡ min heldMost (to - w.from) → take n front ≡ take n (drop w.from text) → n ≤ length front
+  goes_all : (n : ℕ) → n ≡ min held_most (to - w.from) → take n front ≡ take n (drop w.from text) → n ≤ length front
       → NoFeed (drop w.from (line ++ came)) → Goes s line came (turned false n) queue front out
   unfolding walk
-  goes-all n c p q g =
+  goes_all n c p q g =
       let d = drop w.from (line ++ came) in let u = handed h w.at out (take w.at out) k.room refl t in
-      let held-line : take n front ≡ take heldMost d = p ∙ least n c in
+      let held-line : take n front ≡ take held_most d = p ∙ least n c in
       record {
         part = came;
         whole = rw (slice_empty n front, append-nil);
-        turns = rw (over, all-gone s line came f w queue before out k g) record { session = refl; line = held-line; handed = u.0; text = u.1 };
-        ready = record { most = q; room = λ z. omega arith; plain = λ z. rw held-line (front-plain d g) };
+        turns = rw (over, all_gone s line came f w queue before out k g) record { session = refl; line = held-line; handed = u.0; text = u.1 };
+        ready = record { most = q; room = λ z. omega arith; plain = λ z. rw held-line (front_plain d g) };
       }
     where
-      least : (n : ℕ) → n ≡ min heldMost (to - w.from) → take n (drop w.from text) ≡ take heldMost (drop w.from (line ++ came))
-      least n c = go (dec_lt heldMost (to - w.from))
+      least : (n : ℕ) → n ≡ min held_most (to - w.from) → take n (drop w.from text) ≡ take held_most (drop w.from (line ++ came))
+      least n c = go (dec_lt held_most (to - w.from))
         where
-          go : Dec (heldMost < to - w.from) → take n (drop w.from text) ≡ take heldMost (drop w.from (line ++ came))
-          go (yes l) = let i : n ≡ heldMost = omega arith in rw (i, behind) (sym (take-take heldMost (to - w.from) (drop w.from text) (omega arith)))
-          go (no l) = let i : n ≡ to - w.from = omega arith in rw (i, behind) (sym (take_all heldMost (take (to - w.from) (drop w.from text)) (simp length-take (omega arith))))
+          go : Dec (held_most < to - w.from) → take n (drop w.from text) ≡ take held_most (drop w.from (line ++ came))
+          go (yes l) = let i : n ≡ held_most = omega arith in rw (i, behind) (sym (take-take held_most (to - w.from) (drop w.from text) (omega arith)))
+          go (no l) = let i : n ≡ to - w.from = omega arith in rw (i, behind) (sym (take_all held_most (take (to - w.from) (drop w.from text)) (simp length-take (omega arith))))
 
-      front-plain : (d : List ℕ) → NoFeed d → NoFeed (take heldMost d)
-      front-plain d g i j z = let v = simp length-take at j in g i (omega arith) (sym (get_or-take heldMost d i 0 (omega arith)) ∙ z)
+      front_plain : (d : List ℕ) → NoFeed d → NoFeed (take held_most d)
+      front_plain d g i j z = let v = simp length-take at j in g i (omega arith) (sym (get_or-take held_most d i 0 (omega arith)) ∙ z)
 
   goes_some : (n : ℕ) → n ≡ to - w.from → take n front ≡ take n (drop w.from text) → n ≤ length front → 0 < w.at
       → Goes s line came (turned true n) queue front out
   goes_some n c p q a =
-      let l = line-gone s line came f w queue before out k a in let u = handed h w.at out (take w.at out) k.room refl t in
+      let l = line_gone s line came f w queue before out k a in let u = handed h w.at out (take w.at out) k.room refl t in
       let i : length line + (w.from - length line) ≡ w.from = omega arith in
       let x : take n front ≡ drop (w.from - length line) came =
       p ∙ ap (λ (j : ℕ). take j (drop w.from text)) c ∙ sym behind ∙ ap (λ (j : ℕ). drop j (line ++ came)) (sym i) ∙ drop-append-add line came (w.from - length line) in
       record {
         part = take (w.from - length line) came;
         whole = rw x (take-append-drop (w.from - length line) came);
-        turns = rw (over, some-gone s line came f w queue before out k l) record { session = refl; line = refl; handed = u.0; text = u.1 };
-        ready = record { most = q; room = λ z. absurd (true-false z); plain = λ z. absurd (true-false z) };
+        turns = rw (over, some_gone s line came f w queue before out k l) record { session = refl; line = refl; handed = u.0; text = u.1 };
+        ready = record { most = q; room = λ z. absurd (true_false z); plain = λ z. absurd (true_false z) };
       }
 
-  pub goes : (more : Bool) (n : ℕ) → more ≡ ltb (length before - w.at) 33 → n ≡ pick more (to - w.from) (min heldMost (to - w.from))
+  pub goes : (more : Bool) (n : ℕ) → more ≡ ltb (length before - w.at) 33 → n ≡ pick more (to - w.from) (min held_most (to - w.from))
       → take n front ≡ take n (drop w.from text) → n ≤ length front → Goes s line came (turned more n) queue front out
   goes true n b c p q = let l = ltb-true (length before - w.at) 33 (sym b) in goes_some n c p q (omega arith)
-  goes false n b c p q = let l = ltb-false (length before - w.at) 33 (sym b) in goes-all n c p q (k.all l)
+  goes false n b c p q = let l = ltb-false (length before - w.at) 33 (sym b) in goes_all n c p q (k.all l)
 
 -- the turn at the end of the input
-goes_last : (s : Session) (line : List ℕ) (w : Walked) (queue out : List ℕ) → Ends s line w queue out → (to : ℕ) (text front : List ℕ) → to ≤ heldMost
+goes_last : (s : Session) (line : List ℕ) (w : Walked) (queue out : List ℕ) → Ends s line w queue out → (to : ℕ) (text front : List ℕ) → to ≤ held_most
     → to ≤ length text → take to text ≡ line → NoFeed line → (moved : Moved) (h : Handed) → Hands (take w.at out) h → moved.over ≡ true
-    → (n : ℕ) → n ≡ min heldMost (to - w.from) → take n front ≡ take n (drop w.from text) → n ≤ length front
+    → (n : ℕ) → n ≡ min held_most (to - w.from) → take n front ≡ take n (drop w.from text) → n ≤ length front
     → Goes s line [] (record { standing = w.standing; to = n; more = false; came = moved; handed = h }) queue front out
 goes_last s line w queue out k to text front l m e f moved h t over n c p q =
-    let i : n ≡ to = omega (arith, k.from) in let u = handed h w.at out (lastText line) k.room k.text t in
+    let i : n ≡ to = omega (arith, k.from) in let u = handed h w.at out (last_text line) k.room k.text t in
     let x : take n front ≡ line = p ∙ rw (i, k.from) e in let j : length line ≡ to = ap length (sym e) ∙ length-take-le to text m in
     record {
       part = [];
       whole = slice_empty n front;
-      turns = rw over record { session = k.session; line = x ∙ sym (take_all heldMost line (omega arith)); handed = u.0; text = u.1 };
+      turns = rw over record { session = k.session; line = x ∙ sym (take_all held_most line (omega arith)); handed = u.0; text = u.1 };
       ready = record { most = q; room = λ z. omega arith; plain = λ z. rw x f };
     }
 
@@ -189,40 +189,40 @@ module _ (s : Session) (before : Turned) (moved : Moved) (h : Handed) (w : Walke
   size = let n = ap length put ∙ length-paste front₀ before.to chunk moved.bytes fits some in omega arith
 
   last_turn : (m : Bool) (n : ℕ) → before.more ≡ m → moved.over ≡ true → Ends s (take (before.to + moved.bytes) text) w queue out
-      → n ≡ min heldMost (before.to + moved.bytes - w.from) → take n front ≡ take n (drop w.from text) → n ≤ length front
+      → n ≡ min held_most (before.to + moved.bytes - w.from) → take n front ≡ take n (drop w.from text) → n ≤ length front
       → Goes s (take (held before) front₀) (left before front₀ ++ take moved.bytes chunk)
       (record { standing = w.standing; to = n; more = false; came = moved; handed = h }) queue front out
   unfolding line came
-  last_turn true n e o a c p q = absurd (true-false (sym o ∙ ap (λ (x : Moved). x.over) (rw e at brings)))
+  last_turn true n e o a c p q = absurd (true_false (sym o ∙ ap (λ (x : Moved). x.over) (rw e at brings)))
   last_turn false n e o a c p q =
       let z : moved.bytes ≡ 0 = (rw e at brings).1.none o in
       let y : left before front₀ ++ take moved.bytes chunk ≡ [] = rw (e, z, slice_empty before.to front₀) in
       let l : take (before.to + moved.bytes) text ≡ take (held before) front₀ = two ∙ rw (y, append-nil) in
       let r = ready.room e in
       rw y (goes_last s (take (held before) front₀) w queue out (rw l at a) (before.to + moved.bytes) text front (omega arith) size l
-      (no-feed before.more before.to front₀ ready.plain) moved h t o n c p q)
+      (no_feed before.more before.to front₀ ready.plain) moved h t o n c p q)
 
-  pub turns-on : (over more : Bool) (n : ℕ) → moved.over ≡ over → Answers over s (take (before.to + moved.bytes) text) w queue out₀ out
-      → more ≡ noRoom over (length out₀) w.at
-      → n ≡ pick more (before.to + moved.bytes - w.from) (min heldMost (before.to + moved.bytes - w.from))
+  pub turns_on : (over more : Bool) (n : ℕ) → moved.over ≡ over → Answers over s (take (before.to + moved.bytes) text) w queue out₀ out
+      → more ≡ no_room over (length out₀) w.at
+      → n ≡ pick more (before.to + moved.bytes - w.from) (min held_most (before.to + moved.bytes - w.from))
       → take n front ≡ take n (drop w.from text) → n ≤ length front
       → Goes s (take (held before) front₀) (left before front₀ ++ take moved.bytes chunk)
       (record { standing = w.standing; to = n; more = more; came = moved; handed = h }) queue front out
   unfolding line came
-  turns-on false more n o a b c p q =
-      goes s line came (no-feed before.more before.to front₀ ready.plain) w queue out₀ out (rw two at a) (before.to + moved.bytes) text front size two moved h t long o more n b c p q
-  turns-on true more n o a b c p q = rw b (last_turn before.more n refl o a (rw b at c) p q)
+  turns_on false more n o a b c p q =
+      goes s line came (no_feed before.more before.to front₀ ready.plain) w queue out₀ out (rw two at a) (before.to + moved.bytes) text front size two moved h t long o more n b c p q
+  turns_on true more n o a b c p q = rw b (last_turn before.more n refl o a (rw b at c) p q)
 
 -- there is room for what was brought
-pub room_for : (before : Turned) (front : List ℕ) (n : ℕ) (moved : Moved) → Ready before front → Brings before.more n moved → length front ≡ heldMost + n
+pub room_for : (before : Turned) (front : List ℕ) (n : ℕ) (moved : Moved) → Ready before front → Brings before.more n moved → length front ≡ held_most + n
     → (before.to + moved.bytes ≤ length front) × (moved.bytes ≤ n)
 room_for before front n moved r b e = go before.more r.room b
   where
-    go : (more : Bool) → (more ≡ false → before.to ≤ heldMost) → Brings more n moved → (before.to + moved.bytes ≤ length front) × (moved.bytes ≤ n)
+    go : (more : Bool) → (more ≡ false → before.to ≤ held_most) → Brings more n moved → (before.to + moved.bytes ≤ length front) × (moved.bytes ≤ n)
     go true f b = let z = ap (λ (x : Moved). x.bytes) b in let m = r.most in (omega arith, omega arith)
     go false f b = let m = f refl in let k = b.1.room in (omega arith, omega arith)
 
-pub gone-within : (over : Bool) (s : Session) (text : List ℕ) (w : Walked) (queue before out : List ℕ) → Answers over s text w queue before out
+pub gone_within : (over : Bool) (s : Session) (text : List ℕ) (w : Walked) (queue before out : List ℕ) → Answers over s text w queue before out
     → (w.from ≤ length text) × (w.at ≤ length out)
-gone-within true s text w queue before out k = (omega (arith, k.from), k.room)
-gone-within false s text w queue before out k = let g = gone-most (length before / 33) 0 text in (omega (arith, k.from), k.room)
+gone_within true s text w queue before out k = (omega (arith, k.from), k.room)
+gone_within false s text w queue before out k = let g = gone_most (length before / 33) 0 text in (omega (arith, k.from), k.room)

@@ -2,13 +2,13 @@
 use Rattle.std.specs.Prelude.{ℕ, ◌≤◌, ◌<◌, ◌-◌, ◌^◌, Bool, true, false, ◌≡◌, List, [], ◌++◌, ◌⊎◌, ltb, ℤ, pos, length, take, drop, get_or}
 use Rattle.io.specs.Counts.{clamp_len}
 use Rattle.rules.specs.Tests.{pick}
-use Rattle.rules.specs.Frames.{lastText}
+use Rattle.rules.specs.Frames.{last_text}
 use Rattle.rules.specs.declared.Session.{Session}
 use Rattle.frames.specs.Course.{Course}
-use Rattle.frames.specs.Replies.{sessionOf}
+use Rattle.frames.specs.Replies.{session_of}
 use Rattle.frames.specs.Walks.{Walks}
 use Rattle.frames.specs.declared.text.Walked.{Walked}
-use Rattle.recorder.specs.Course.{heldMost, course, turn}
+use Rattle.recorder.specs.Course.{held_most, course, turn}
 use Rattle.recorder.specs.declared.Moved.{Moved}
 use Rattle.recorder.specs.declared.Handed.{Handed}
 use Rattle.recorder.specs.declared.Turned.{Turned}
@@ -32,19 +32,19 @@ pub record Hands (text : List ℕ) (r : Handed) : Type 0 where
 
 -- at the end of the input the line that is left is answered, and nothing else moves
 pub record Ends (s : Session) (line : List ℕ) (r : Walked) (queue out : List ℕ) : Type 0 where
-  pub session : sessionOf r.standing queue ≡ s
+  pub session : session_of r.standing queue ≡ s
   pub from : r.from ≡ 0
   pub room : r.at ≤ length out
-  pub text : take r.at out ≡ lastText line
+  pub text : take r.at out ≡ last_text line
 
 abbrev pub Answers : Bool → Session → List ℕ → Walked → List ℕ → List ℕ → List ℕ → Type 0
 Answers true s text r queue before out = Ends s text r queue out
 Answers false s text r queue before out = Walks s text r queue before out
 
 -- whether an answer had no room, in a turn that is not the last
-abbrev pub noRoom : Bool → ℕ → ℕ → Bool
-noRoom true n at = false
-noRoom false n at = ltb (n - at) 33
+abbrev pub no_room : Bool → ℕ → ℕ → Bool
+no_room true n at = false
+no_room false n at = ltb (n - at) 33
 
 -- of what has come and is not answered: the line that has not ended, and, where an answer had no room, what is to be gone over next
 abbrev pub held : Turned → ℕ
@@ -55,15 +55,15 @@ left r front = drop (held r) (take r.to front)
 
 -- the session and the line held after a turn are those of the course, and what was handed on is its text from the first byte on
 pub record Turns (w : Course) (r : Turned) (queue front out : List ℕ) : Type 0 where
-  pub session : sessionOf r.standing queue ≡ w.session
-  pub line : take (held r) front ≡ take heldMost w.line
+  pub session : session_of r.standing queue ≡ w.session
+  pub line : take (held r) front ≡ take held_most w.line
   pub handed : Hands w.text r.handed
   pub text : take r.handed.bytes out ≡ take r.handed.bytes w.text
 
 -- what a turn asks of the one before: there is room for a read behind a line that is held, and no line feed in it
 pub record Ready (r : Turned) (front : List ℕ) : Type 0 where
   pub most : r.to ≤ length front
-  pub room : r.more ≡ false → r.to ≤ heldMost
+  pub room : r.more ≡ false → r.to ≤ held_most
   pub plain : r.more ≡ false → (k : ℕ) → k < length (take r.to front) → get_or (take r.to front) k 0 ≡ 10 → ⊥
 
 -- a turn over what has come: a part of it is gone over, and the rest is left, so that no byte is lost and none comes twice

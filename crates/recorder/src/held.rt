@@ -2,7 +2,7 @@
 ghost use Rattle.std.specs.Prelude.{◌≡◌, ◌++◌, ◌+◌, ◌-◌, ◌≤◌, min, length, take, drop};
 ghost use Rattle.std.proofs.Math.Seq.{paste};
 ghost use Rattle.rules.specs.Tests.{pick};
-ghost use Rattle.recorder.specs.Course.{heldMost};
+ghost use Rattle.recorder.specs.Course.{held_most};
 
 fn least(a: usize, b: usize) -> usize
     ensures { (result ≡ min a b) × (result ≤ a) × (result ≤ b) }
@@ -32,7 +32,7 @@ fn move_front(text: &mut [u8], from: usize, n: usize)
 
 // All that is left where an answer had no room; else no more of a line that has not ended than tells it from one of 80 characters.
 fn kept(more: bool, left: usize) -> usize
-    ensures { (result ≡ pick more left (min heldMost left)) × (result ≤ left) }
+    ensures { (result ≡ pick more left (min held_most left)) × (result ≤ left) }
 {
     if more {
         return left;
@@ -42,7 +42,7 @@ fn kept(more: bool, left: usize) -> usize
 
 pub fn keep(text: &mut [u8], from: usize, to: usize, more: bool) -> usize
     requires { (from ≤ to) × (to ≤ length text.old) }
-    ensures { (result ≡ pick more (to - from) (min heldMost (to - from))) × (result ≤ to - from) × (take result text.new ≡ take result (drop from text.old)) }
+    ensures { (result ≡ pick more (to - from) (min held_most (to - from))) × (result ≤ to - from) × (take result text.new ≡ take result (drop from text.old)) }
 {
     let n = kept(more, to - from);
     move_front(text, from, n);

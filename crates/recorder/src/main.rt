@@ -2,10 +2,10 @@
 mod held;
 
 ghost use Rattle.std.specs.Prelude.{true, false, ◌++◌, ◌≡◌, ◌+◌, ◌≤◌, pos, length, take};
-ghost use Rattle.rules.specs.Frames.{newSession, lastText};
-ghost use Rattle.frames.specs.Replies.{sessionOf, newStanding};
-ghost use Rattle.recorder.specs.Course.{heldMost};
-ghost use Rattle.recorder.specs.Turns.{Moves, Brings, Hands, Answers, noRoom, held, left, Ready, Goes, Ran};
+ghost use Rattle.rules.specs.Frames.{new_session, last_text};
+ghost use Rattle.frames.specs.Replies.{session_of, new_standing};
+ghost use Rattle.recorder.specs.Course.{held_most};
+ghost use Rattle.recorder.specs.Turns.{Moves, Brings, Hands, Answers, no_room, held, left, Ready, Goes, Ran};
 
 use frames::{Standing, Walked};
 use held::{keep, put};
@@ -103,7 +103,7 @@ fn brought(more: bool, chunk: &mut [u8]) -> Moved
 // The answer to a last line without line feed, which is ill-formed; an empty one is none.
 fn end(line: &[u8], out: &mut [u8]) -> usize
     requires { 33 ≤ length out.old }
-    ensures { (result ≤ length out.new) × (take result out.new ≡ lastText line.now) }
+    ensures { (result ≤ length out.new) × (take result out.new ≡ last_text line.now) }
 {
     if line.len() == 0 {
         return 0;
@@ -123,7 +123,7 @@ fn answered(
     out: &mut [u8],
 ) -> Walked
     requires { 33 ≤ length out.old }
-    ensures { Answers over (sessionOf standing q.old) text.now result q.new out.old out.new }
+    ensures { Answers over (session_of standing q.old) text.now result q.new out.old out.new }
 {
     if over {
         let last = end(text, out);
@@ -139,7 +139,7 @@ fn answered(
 // Whether an answer had no room, in a turn that is not the last.
 fn no_room(over: bool, len: usize, at: usize) -> bool
     requires { at ≤ len }
-    ensures { result ≡ noRoom over len at }
+    ensures { result ≡ no_room over len at }
 {
     !over & (len - at < 33)
 }
@@ -154,8 +154,8 @@ fn turn(
     text: &mut [u8],
     out: &mut [u8],
 ) -> Turned
-    requires { Ready before text.old × Brings before.more (length chunk.now) came × (length text.old ≡ heldMost + length chunk.now) × (33 ≤ length out.old) }
-    ensures { (result.came ≡ came) × Goes (sessionOf before.standing q.old) (take (held before) text.old) (left before text.old ++ take came.bytes chunk.now) result q.new text.new out.new }
+    requires { Ready before text.old × Brings before.more (length chunk.now) came × (length text.old ≡ held_most + length chunk.now) × (33 ≤ length out.old) }
+    ensures { (result.came ≡ came) × Goes (session_of before.standing q.old) (take (held before) text.old) (left before text.old ++ take came.bytes chunk.now) result q.new text.new out.new }
 {
     put(text, before.to, chunk, came.bytes);
     let to = before.to + came.bytes;
@@ -175,7 +175,7 @@ fn turn(
 
 // Before the first read.
 fn start() -> Turned
-    ensures { (result.standing ≡ newStanding) × (result.to ≡ 0) × (result.more ≡ false) }
+    ensures { (result.standing ≡ new_standing) × (result.to ≡ 0) × (result.more ≡ false) }
 {
     let standing = frames::new_standing();
     Turned {
@@ -201,7 +201,7 @@ fn run(
     text: &mut [u8],
     out: &mut [u8],
 ) -> Turned
-    requires { (q.old ≡ newSession.queue) × (length text.old ≡ heldMost + length chunk.old) × (33 ≤ length out.old) }
+    requires { (q.old ≡ new_session.queue) × (length text.old ≡ held_most + length chunk.old) × (33 ≤ length out.old) }
     ensures { Ran result q.new text.new out.new }
 {
     let mut turns = u64::MAX;
@@ -225,7 +225,7 @@ fn chunk_space() -> [u8; 8192]
 }
 
 fn text_space() -> [u8; 8273]
-    ensures { length result ≡ heldMost + 8192 }
+    ensures { length result ≡ held_most + 8192 }
 {
     [0; 8273]
 }

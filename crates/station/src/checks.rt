@@ -1,11 +1,11 @@
 // Document 01, "Calls and their checks": each call's checks in the document's order.
 ghost use Rattle.std.specs.Prelude.{◌≡◌};
-ghost use Rattle.rules.specs.Calls.{refuseIf, noQueue, wrongQueue, numbersSpent, nothingToFind, openChecks, queueChecks, numbersCheck, owedCheck, unitChecks, resultChecks, findChecks, changeChecks, ownChecks};
+ghost use Rattle.rules.specs.Calls.{refuse_if, no_queue, wrong_queue, numbers_spent, nothing_to_find, open_checks, queue_checks, numbers_check, owed_check, unit_checks, result_checks, find_checks, change_checks, own_checks};
 
 use rules::{Call, EVENTS_END, Phase, Plan, Refusal, Station, Verdict};
 
 fn refuse_if(fault: bool, r: Refusal, otherwise: Verdict) -> Verdict
-    ensures { result ≡ refuseIf fault r otherwise }
+    ensures { result ≡ refuse_if fault r otherwise }
 {
     if fault {
         return Verdict::Refuse(r);
@@ -15,7 +15,7 @@ fn refuse_if(fault: bool, r: Refusal, otherwise: Verdict) -> Verdict
 
 // No queue has more than the 12,288 words of 4,096 entries; up to there they are counted in 32 bits (document 02, W3).
 fn no_queue(len: usize) -> bool
-    ensures { result ≡ noQueue len }
+    ensures { result ≡ no_queue len }
 {
     if 12288 < len {
         return true;
@@ -26,7 +26,7 @@ fn no_queue(len: usize) -> bool
 
 // A room in its range is multiplied in 32 bits.
 fn wrong_queue(room: u32, len: usize) -> bool
-    ensures { result ≡ wrongQueue room len }
+    ensures { result ≡ wrong_queue room len }
 {
     if !record::room_in_range(room) {
         return true;
@@ -35,13 +35,13 @@ fn wrong_queue(room: u32, len: usize) -> bool
 }
 
 fn numbers_spent(next: u32) -> bool
-    ensures { result ≡ numbersSpent next }
+    ensures { result ≡ numbers_spent next }
 {
     (EVENTS_END as u64) < (next as u64) + 3
 }
 
 fn nothing_to_find(phase: Phase) -> bool
-    ensures { result ≡ nothingToFind phase }
+    ensures { result ≡ nothing_to_find phase }
 {
     match phase {
         Phase::Screen(c) => c.unrecalled == 0,
@@ -50,7 +50,7 @@ fn nothing_to_find(phase: Phase) -> bool
 }
 
 pub fn open_checks(p: Plan, len: usize) -> Verdict
-    ensures { result ≡ openChecks p len }
+    ensures { result ≡ open_checks p len }
 {
     refuse_if(
         no_queue(len),
@@ -64,7 +64,7 @@ pub fn open_checks(p: Plan, len: usize) -> Verdict
 }
 
 pub fn queue_checks(s: Station, len: usize, own: Verdict) -> Verdict
-    ensures { result ≡ queueChecks s len own }
+    ensures { result ≡ queue_checks s len own }
 {
     refuse_if(
         wrong_queue(s.room, len),
@@ -74,19 +74,19 @@ pub fn queue_checks(s: Station, len: usize, own: Verdict) -> Verdict
 }
 
 fn numbers_check(s: Station, rest: Verdict) -> Verdict
-    ensures { result ≡ numbersCheck s.numbers.next rest }
+    ensures { result ≡ numbers_check s.numbers.next rest }
 {
     refuse_if(numbers_spent(s.numbers.next), Refusal::NumbersSpent, rest)
 }
 
 fn owed_check(s: Station, rest: Verdict) -> Verdict
-    ensures { result ≡ owedCheck s.numbers.next s.stream.tally rest }
+    ensures { result ≡ owed_check s.numbers.next s.stream.tally rest }
 {
     numbers_check(s, refuse_if(s.stream.tally.owed, Refusal::ResultOwed, rest))
 }
 
 fn unit_checks(s: Station, k: u32) -> Verdict
-    ensures { result ≡ unitChecks s.stream s.numbers.next k }
+    ensures { result ≡ unit_checks s.stream s.numbers.next k }
 {
     owed_check(
         s,
@@ -103,7 +103,7 @@ fn unit_checks(s: Station, k: u32) -> Verdict
 }
 
 fn result_checks(s: Station, r: u32) -> Verdict
-    ensures { result ≡ resultChecks s.stream s.numbers.next r }
+    ensures { result ≡ result_checks s.stream s.numbers.next r }
 {
     numbers_check(
         s,
@@ -116,7 +116,7 @@ fn result_checks(s: Station, r: u32) -> Verdict
 }
 
 fn find_checks(s: Station) -> Verdict
-    ensures { result ≡ findChecks s.stream s.numbers.next }
+    ensures { result ≡ find_checks s.stream s.numbers.next }
 {
     let stream = s.stream;
     let phase = stream.phase;
@@ -131,7 +131,7 @@ fn find_checks(s: Station) -> Verdict
 }
 
 fn change_checks(s: Station, q: Plan) -> Verdict
-    ensures { result ≡ changeChecks s.stream s.numbers.next q }
+    ensures { result ≡ change_checks s.stream s.numbers.next q }
 {
     owed_check(
         s,
@@ -149,7 +149,7 @@ fn change_checks(s: Station, q: Plan) -> Verdict
 
 // The checks of a call after 1 and 2.
 pub fn own_checks(call: Call, s: Station) -> Verdict
-    ensures { result ≡ ownChecks call s.stream s.numbers.next }
+    ensures { result ≡ own_checks call s.stream s.numbers.next }
 {
     match call {
         Call::Unit(k) => unit_checks(s, k),

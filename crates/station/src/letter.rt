@@ -1,14 +1,14 @@
 // Document 02, W1: change of code letter in mid-run.
 ghost use Rattle.std.specs.Prelude.{◌≡◌, not};
 ghost use Rattle.rules.specs.Tests.{pick};
-ghost use Rattle.rules.specs.Change.{andLast, upNext, sequencePlan, inSampling, shifts, inForce, takenUp, atShift, mayNow, freshMoved, levelRaised, nowMoved, changedNow, withWaiting, Equal, Fresh, Now, Later, changedBy, changeRule};
+ghost use Rattle.rules.specs.Change.{and_last, up_next, sequence_plan, in_sampling, shifts, in_force, taken_up, at_shift, may_now, fresh_moved, level_raised, now_moved, changed_now, with_waiting, Equal, Fresh, Now, Later, changed_by, change_rule};
 
 use crate::screening::start_screening;
 use rules::{Event, Kind, Moved, Phase, Plan, Raised, Ruled, Sampling, Screening, Stream, Waiting};
 
 // One event more, the last of its call.
 fn and_last(raised: Raised, e: Event) -> Raised
-    ensures { result ≡ andLast raised e }
+    ensures { result ≡ and_last raised e }
 {
     match raised {
         Raised::None => Raised::One(e),
@@ -20,7 +20,7 @@ fn and_last(raised: Raised, e: Event) -> Raised
 
 // The plan in force once the waiting one, if any, is taken up.
 pub fn up_next(w: Waiting, p: Plan) -> Plan
-    ensures { result ≡ upNext w p }
+    ensures { result ≡ up_next w p }
 {
     match w {
         Waiting::NoPlan => p,
@@ -30,7 +30,7 @@ pub fn up_next(w: Waiting, p: Plan) -> Plan
 
 // The plan of a screening sequence that starts now.
 pub fn sequence_plan(phase: Phase, w: Waiting, p: Plan) -> Plan
-    ensures { result ≡ sequencePlan phase w p }
+    ensures { result ≡ sequence_plan phase w p }
 {
     match phase {
         Phase::Screen(_) => p,
@@ -39,7 +39,7 @@ pub fn sequence_plan(phase: Phase, w: Waiting, p: Plan) -> Plan
 }
 
 fn in_sampling(phase: Phase) -> bool
-    ensures { result ≡ inSampling phase }
+    ensures { result ≡ in_sampling phase }
 {
     match phase {
         Phase::Screen(_) => false,
@@ -60,7 +60,7 @@ fn shifts(before: Phase, after: Phase) -> bool
 }
 
 fn in_force(q: Plan, phase: Phase, s: Stream) -> Stream
-    ensures { result ≡ inForce q phase s }
+    ensures { result ≡ in_force q phase s }
 {
     let tally = s.tally;
     let silence = s.silence;
@@ -76,7 +76,7 @@ fn in_force(q: Plan, phase: Phase, s: Stream) -> Stream
 
 // A plan takes force: event 10 comes last.
 fn taken_up(unit: u32, w: Waiting, r: Ruled) -> Ruled
-    ensures { result ≡ takenUp unit w r }
+    ensures { result ≡ taken_up unit w r }
 {
     match w {
         Waiting::NoPlan => r,
@@ -98,7 +98,7 @@ fn taken_up(unit: u32, w: Waiting, r: Ruled) -> Ruled
 }
 
 fn taken_if(shift: bool, unit: u32, r: Ruled) -> Ruled
-    ensures { result ≡ pick shift (takenUp unit r.stream.waiting r) r }
+    ensures { result ≡ pick shift (taken_up unit r.stream.waiting r) r }
 {
     let stream = r.stream;
     let waiting = stream.waiting;
@@ -110,7 +110,7 @@ fn taken_if(shift: bool, unit: u32, r: Ruled) -> Ruled
 
 // At a shift from one phase to the other a plan that waits is taken up.
 pub fn at_shift(unit: u32, before: Phase, r: Ruled) -> Ruled
-    ensures { result ≡ atShift unit before r }
+    ensures { result ≡ at_shift unit before r }
 {
     let stream = r.stream;
     let phase = stream.phase;
@@ -119,7 +119,7 @@ pub fn at_shift(unit: u32, before: Phase, r: Ruled) -> Ruled
 
 // A lower frequency may be taken up at once in screening, a higher one in sampling.
 fn may_now(phase: Phase, p: Plan, q: Plan) -> bool
-    ensures { result ≡ mayNow phase p q }
+    ensures { result ≡ may_now phase p q }
 {
     match phase {
         Phase::Screen(_) => p.n < q.n,
@@ -129,7 +129,7 @@ fn may_now(phase: Phase, p: Plan, q: Plan) -> bool
 
 // On demand.
 fn fresh_moved(q: Plan, unit: u32, phase: Phase) -> Moved
-    ensures { result ≡ freshMoved q unit phase }
+    ensures { result ≡ fresh_moved q unit phase }
 {
     match phase {
         Phase::Screen(_) => Moved {
@@ -148,7 +148,7 @@ fn fresh_moved(q: Plan, unit: u32, phase: Phase) -> Moved
 }
 
 fn level_raised(level: u32, unit: u32) -> Raised
-    ensures { result ≡ levelRaised level unit }
+    ensures { result ≡ level_raised level unit }
 {
     if level == 0 {
         return Raised::None;
@@ -162,7 +162,7 @@ fn level_raised(level: u32, unit: u32) -> Raised
 
 // At once: in screening need is the new i; in sampling all but a watch starts anew.
 fn now_moved(q: Plan, unit: u32, phase: Phase) -> Moved
-    ensures { result ≡ nowMoved q unit phase }
+    ensures { result ≡ now_moved q unit phase }
 {
     match phase {
         Phase::Screen(c) => Moved {
@@ -189,7 +189,7 @@ fn now_moved(q: Plan, unit: u32, phase: Phase) -> Moved
 }
 
 fn changed_now(q: Plan, m: Moved, s: Stream) -> Ruled
-    ensures { result ≡ changedNow q m s }
+    ensures { result ≡ changed_now q m s }
 {
     let phase = m.phase;
     let raised = m.raised;
@@ -205,7 +205,7 @@ fn changed_now(q: Plan, m: Moved, s: Stream) -> Ruled
 }
 
 fn with_waiting(q: Plan, s: Stream) -> Stream
-    ensures { result ≡ withWaiting q s }
+    ensures { result ≡ with_waiting q s }
 {
     let plan = s.plan;
     let phase = s.phase;
@@ -223,7 +223,7 @@ fn with_waiting(q: Plan, s: Stream) -> Stream
 
 // The ways of an accepted change: equal frequencies, on demand, at once, or later.
 fn changed(equal: bool, demand: bool, may: bool, q: Plan, s: Stream) -> Ruled
-    ensures { result ≡ changedBy (pick equal Equal (pick demand Fresh (pick may Now Later))) q s }
+    ensures { result ≡ changed_by (pick equal Equal (pick demand Fresh (pick may Now Later))) q s }
 {
     let phase = s.phase;
     let last = s.tally.last;
@@ -247,7 +247,7 @@ fn changed(equal: bool, demand: bool, may: bool, q: Plan, s: Stream) -> Ruled
 
 // A new plan of the same type.
 pub fn change_rule(q: Plan, demand: bool, s: Stream) -> Ruled
-    ensures { result ≡ changeRule q demand s }
+    ensures { result ≡ change_rule q demand s }
 {
     let p = s.plan;
     let phase = s.phase;

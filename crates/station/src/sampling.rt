@@ -1,8 +1,8 @@
 // Document 01, "Sampling".
 ghost use Rattle.std.specs.Prelude.{◌≡◌, ◌≤◌, ◌<◌};
-ghost use Rattle.rules.specs.Plan.{clearanceLimit};
-ghost use Rattle.rules.specs.Sampling.{drawn, placed, counted, quietly, goodT, goodV, good2, sampledGood, reverted, needAfterSampling, sampledBad};
-ghost use Rattle.rules.specs.Stream.{arrivedDrawn, arrivedSampling};
+ghost use Rattle.rules.specs.Plan.{clearance_limit};
+ghost use Rattle.rules.specs.Sampling.{drawn, placed, counted, quietly, good_t, good_v, good2, sampled_good, reverted, need_after_sampling, sampled_bad};
+ghost use Rattle.rules.specs.Stream.{arrived_drawn, arrived_sampling};
 
 use crate::screening::{start_sampling, start_screening};
 use rules::{
@@ -28,7 +28,7 @@ fn draw_place(len: u16, s: u32, m: Sampling) -> Drawn
 // The unit at the chosen place is inspected, the others pass.
 pub fn arrived_sampling(len: u16, s: u32, m: Sampling) -> Arrived
     requires { m.place < 800 }
-    ensures { result ≡ arrivedSampling len s m }
+    ensures { result ≡ arrived_sampling len s m }
 {
     let d = draw_place(len, s, m);
     let place = draw::next_place(len as u64, m.place) as u32;
@@ -70,8 +70,8 @@ fn quiet(phase: Phase) -> Moved
 }
 
 fn good_t(p: Plan, unit: u32, m: Sampling) -> Moved
-    requires { (m.level ≤ 2) × (m.row ≤ clearanceLimit) }
-    ensures { result ≡ goodT p unit m }
+    requires { (m.level ≤ 2) × (m.row ≤ clearance_limit) }
+    ensures { result ≡ good_t p unit m }
 {
     if 2 <= m.level {
         return quiet(Phase::Sample(m));
@@ -92,8 +92,8 @@ fn good_t(p: Plan, unit: u32, m: Sampling) -> Moved
 }
 
 fn good_v(p: Plan, m: Sampling) -> Moved
-    requires { m.row ≤ clearanceLimit }
-    ensures { result ≡ goodV p m }
+    requires { m.row ≤ clearance_limit }
+    ensures { result ≡ good_v p m }
 {
     if m.row < p.i {
         return quiet(with_counts(m.row + 1, m.watch, m.watched, m));
@@ -102,7 +102,7 @@ fn good_v(p: Plan, m: Sampling) -> Moved
 }
 
 fn good_2(p: Plan, m: Sampling) -> Moved
-    requires { m.watched ≤ clearanceLimit }
+    requires { m.watched ≤ clearance_limit }
     ensures { result ≡ good2 p m }
 {
     if m.watch {
@@ -116,8 +116,8 @@ fn good_2(p: Plan, m: Sampling) -> Moved
 }
 
 pub fn sampled_good(p: Plan, unit: u32, m: Sampling) -> Moved
-    requires { (m.level ≤ 2) × (m.row ≤ clearanceLimit) × (m.watched ≤ clearanceLimit) }
-    ensures { result ≡ sampledGood p unit m }
+    requires { (m.level ≤ 2) × (m.row ≤ clearance_limit) × (m.watched ≤ clearance_limit) }
+    ensures { result ≡ sampled_good p unit m }
 {
     if p.kind == CSP_T {
         return good_t(p, unit, m);
@@ -132,7 +132,7 @@ pub fn sampled_good(p: Plan, unit: u32, m: Sampling) -> Moved
 }
 
 fn need_after_sampling(p: Plan, q: Plan, row: u32) -> u32
-    ensures { result ≡ needAfterSampling p q row }
+    ensures { result ≡ need_after_sampling p q row }
 {
     if (p.kind == CSP_V) & (p.i <= row) {
         q.x
@@ -162,7 +162,7 @@ fn revert(need: u32, unit: u32) -> Moved
 }
 
 pub fn sampled_bad(p: Plan, q: Plan, unit: u32, m: Sampling) -> Moved
-    ensures { result ≡ sampledBad p q unit m }
+    ensures { result ≡ sampled_bad p q unit m }
 {
     if (p.kind == CSP_2) & !m.watch {
         return Moved {

@@ -1,13 +1,13 @@
 // Document 01, "Screening".
 ghost use Rattle.std.specs.Prelude.{◌≡◌, ◌<◌};
-ghost use Rattle.rules.specs.Plan.{clearanceLimit, highestUnit};
-ghost use Rattle.rules.specs.Screening.{startScreening, startSampling, restartRaised, screenedGood, needAfterDefect, longScreening, defectRaised, screenedBad, afterFind};
+ghost use Rattle.rules.specs.Plan.{clearance_limit, highest_unit};
+ghost use Rattle.rules.specs.Screening.{start_screening, start_sampling, restart_raised, screened_good, need_after_defect, long_screening, defect_raised, screened_bad, after_find};
 ghost use Rattle.station.specs.Fit.{Findable};
 
 use rules::{CSP_V, Event, Kind, Moved, Phase, Plan, Raised, Sampling, Screening};
 
 pub fn start_screening(need: u32) -> Phase
-    ensures { result ≡ startScreening need }
+    ensures { result ≡ start_screening need }
 {
     Phase::Screen(Screening {
         need,
@@ -18,7 +18,7 @@ pub fn start_screening(need: u32) -> Phase
 }
 
 pub fn start_sampling(level: u32) -> Phase
-    ensures { result ≡ startSampling level }
+    ensures { result ≡ start_sampling level }
 {
     Phase::Sample(Sampling {
         level,
@@ -32,7 +32,7 @@ pub fn start_sampling(level: u32) -> Phase
 
 // A new screening sequence: its cause, then PHASE where sampling ends.
 pub fn restart_raised(cause: Event, unit: u32, phase: Phase) -> Raised
-    ensures { result ≡ restartRaised cause unit phase }
+    ensures { result ≡ restart_raised cause unit phase }
 {
     match phase {
         Phase::Screen(_) => Raised::One(cause),
@@ -48,8 +48,8 @@ pub fn restart_raised(cause: Event, unit: u32, phase: Phase) -> Raised
 }
 
 pub fn screened_good(unit: u32, c: Screening) -> Moved
-    requires { (c.run < clearanceLimit) × (c.screened < highestUnit) × (c.unrecalled < highestUnit) }
-    ensures { result ≡ screenedGood unit c }
+    requires { (c.run < clearance_limit) × (c.screened < highest_unit) × (c.unrecalled < highest_unit) }
+    ensures { result ≡ screened_good unit c }
 {
     let run = c.run + 1;
     if run == c.need {
@@ -74,19 +74,19 @@ pub fn screened_good(unit: u32, c: Screening) -> Moved
 }
 
 fn need_after_defect(p: Plan, need: u32) -> u32
-    ensures { result ≡ needAfterDefect p need }
+    ensures { result ≡ need_after_defect p need }
 {
     if p.kind == CSP_V { p.i } else { need }
 }
 
 fn long_screening(p: Plan, screened: u32) -> bool
-    ensures { result ≡ longScreening p screened }
+    ensures { result ≡ long_screening p screened }
 {
     (p.s != 0) & (p.s <= screened)
 }
 
 fn defect_raised(long: bool, unit: u32, screened: u32) -> Raised
-    ensures { result ≡ defectRaised long unit screened }
+    ensures { result ≡ defect_raised long unit screened }
 {
     let defect = Event {
         kind: Kind::Defect,
@@ -107,8 +107,8 @@ fn defect_raised(long: bool, unit: u32, screened: u32) -> Raised
 }
 
 pub fn screened_bad(p: Plan, unit: u32, c: Screening) -> Moved
-    requires { c.screened < highestUnit }
-    ensures { result ≡ screenedBad p unit c }
+    requires { c.screened < highest_unit }
+    ensures { result ≡ screened_bad p unit c }
 {
     let screened = c.screened + 1;
     Moved {
@@ -125,7 +125,7 @@ pub fn screened_bad(p: Plan, unit: u32, c: Screening) -> Moved
 // A check find: a new run, and the units screened stay screened (document 02, W2).
 pub fn after_find(phase: Phase) -> Phase
     requires { Findable phase }
-    ensures { result ≡ afterFind phase }
+    ensures { result ≡ after_find phase }
 {
     match phase {
         Phase::Screen(c) => Phase::Screen(Screening {

@@ -1,8 +1,8 @@
 // What each call makes of the stream (document 01, "Missed units and silence" and the sections before it).
 ghost use Rattle.std.specs.Prelude.{◌≡◌, true, false, ◌+◌, ◌≤◌, ◌<◌};
 ghost use Rattle.rules.specs.Tests.{pick};
-ghost use Rattle.rules.specs.Stream.{freshStream, missedTally, withTally, restarted, jumped, arrived, arrivedTally, arrivedStream, handled, unitRule, resultPhase, resultTally, resultMoved, resultRule, withPhase, interruptRule, findRule, withSilence, tickRule};
-ghost use Rattle.rules.specs.Plan.{unitLimit, eventLimit, highestUnit};
+ghost use Rattle.rules.specs.Stream.{fresh_stream, missed_tally, with_tally, restarted, jumped, arrived, arrived_tally, arrived_stream, handled, unit_rule, result_phase, result_tally, result_moved, result_rule, with_phase, interrupt_rule, find_rule, with_silence, tick_rule};
+ghost use Rattle.rules.specs.Plan.{unit_limit, event_limit, highest_unit};
 ghost use Rattle.rules.proofs.Facts.{PlanFacts, StreamFacts};
 ghost use Rattle.station.specs.Fit.{Findable, Countable, Placed};
 
@@ -15,7 +15,7 @@ use rules::{
 };
 
 pub fn fresh_stream(p: Plan, seed: u32) -> Stream
-    ensures { result ≡ freshStream p seed }
+    ensures { result ≡ fresh_stream p seed }
 {
     Stream {
         plan: p,
@@ -40,8 +40,8 @@ pub fn fresh_stream(p: Plan, seed: u32) -> Stream
 // A struct is built from its fields, never copied and changed: a copy is moved in pieces of 8 bytes, which are packed and
 // unpacked at every call.
 fn missed_tally(k: u32, t: Tally) -> Tally
-    requires { (t.last < k) × (k ≤ highestUnit) × (t.missed ≤ highestUnit) }
-    ensures { result ≡ missedTally k t }
+    requires { (t.last < k) × (k ≤ highest_unit) × (t.missed ≤ highest_unit) }
+    ensures { result ≡ missed_tally k t }
 {
     Tally {
         conforming: t.conforming,
@@ -54,7 +54,7 @@ fn missed_tally(k: u32, t: Tally) -> Tally
 }
 
 fn with_phase(phase: Phase, s: Stream) -> Stream
-    ensures { result ≡ withPhase phase s }
+    ensures { result ≡ with_phase phase s }
 {
     let plan = s.plan;
     let waiting = s.waiting;
@@ -71,7 +71,7 @@ fn with_phase(phase: Phase, s: Stream) -> Stream
 }
 
 fn with_tally(tally: Tally, s: Stream) -> Stream
-    ensures { result ≡ withTally tally s }
+    ensures { result ≡ with_tally tally s }
 {
     let plan = s.plan;
     let waiting = s.waiting;
@@ -105,7 +105,7 @@ fn restart(cause: Event, unit: u32, s: Stream) -> Ruled
 
 // The units between the last and k are missed.
 fn jump(k: u32, s: Stream) -> Ruled
-    requires { (s.tally.last < k) × (k ≤ highestUnit) × (s.tally.missed ≤ highestUnit) }
+    requires { (s.tally.last < k) × (k ≤ highest_unit) × (s.tally.missed ≤ highest_unit) }
     ensures { result ≡ jumped k s }
 {
     let t = s.tally;
@@ -140,22 +140,22 @@ fn arrive(p: Plan, s: u32, phase: Phase) -> Arrived
 }
 
 fn one_more_if(test: bool, count: u32) -> u32
-    requires { count ≤ highestUnit }
+    requires { count ≤ highest_unit }
     ensures { result ≡ pick test (count + 1) count }
 {
     if test { count + 1 } else { count }
 }
 
 fn one_more_unless(test: bool, count: u32) -> u32
-    requires { count ≤ highestUnit }
+    requires { count ≤ highest_unit }
     ensures { result ≡ pick test count (count + 1) }
 {
     if test { count } else { count + 1 }
 }
 
 fn arrived_tally(k: u32, inspect: bool, t: Tally) -> Tally
-    requires { t.passed ≤ highestUnit }
-    ensures { result ≡ arrivedTally k inspect t }
+    requires { t.passed ≤ highest_unit }
+    ensures { result ≡ arrived_tally k inspect t }
 {
     Tally {
         conforming: t.conforming,
@@ -168,8 +168,8 @@ fn arrived_tally(k: u32, inspect: bool, t: Tally) -> Tally
 }
 
 fn arrived_stream(k: u32, a: Arrived, s: Stream) -> Stream
-    requires { s.tally.passed ≤ highestUnit }
-    ensures { result ≡ arrivedStream k a s }
+    requires { s.tally.passed ≤ highest_unit }
+    ensures { result ≡ arrived_stream k a s }
 {
     let plan = s.plan;
     let waiting = s.waiting;
@@ -192,7 +192,7 @@ fn arrived_stream(k: u32, a: Arrived, s: Stream) -> Stream
 
 // What was missed, then unit k.
 fn handle(k: u32, j: Ruled) -> Ruled
-    requires { PlanFacts j.stream.plan × Placed j.stream.phase × (j.stream.tally.passed ≤ highestUnit) }
+    requires { PlanFacts j.stream.plan × Placed j.stream.phase × (j.stream.tally.passed ≤ highest_unit) }
     ensures { result ≡ handled k j }
 {
     let s = j.stream;
@@ -207,15 +207,15 @@ fn handle(k: u32, j: Ruled) -> Ruled
 }
 
 pub fn unit_rule(k: u32, s: Stream) -> Ruled
-    requires { StreamFacts s × (s.tally.owed ≡ false) × (s.tally.last < k) × (k ≤ unitLimit s.plan) }
-    ensures { result ≡ unitRule k s }
+    requires { StreamFacts s × (s.tally.owed ≡ false) × (s.tally.last < k) × (k ≤ unit_limit s.plan) }
+    ensures { result ≡ unit_rule k s }
 {
     handle(k, jump(k, s))
 }
 
 fn screened_result(p: Plan, next: Plan, unit: u32, r: u32, c: Screening) -> Moved
     requires { Countable (Phase.Screen c) }
-    ensures { result ≡ resultPhase p next unit r (Phase.Screen c) }
+    ensures { result ≡ result_phase p next unit r (Phase.Screen c) }
 {
     if r == 0 {
         screened_good(unit, c)
@@ -226,7 +226,7 @@ fn screened_result(p: Plan, next: Plan, unit: u32, r: u32, c: Screening) -> Move
 
 fn sampled_result(p: Plan, next: Plan, unit: u32, r: u32, m: Sampling) -> Moved
     requires { Countable (Phase.Sample m) }
-    ensures { result ≡ resultPhase p next unit r (Phase.Sample m) }
+    ensures { result ≡ result_phase p next unit r (Phase.Sample m) }
 {
     if r == 0 {
         sampled_good(p, unit, m)
@@ -237,7 +237,7 @@ fn sampled_result(p: Plan, next: Plan, unit: u32, r: u32, m: Sampling) -> Moved
 
 fn result_phase(p: Plan, next: Plan, unit: u32, r: u32, phase: Phase) -> Moved
     requires { Countable phase }
-    ensures { result ≡ resultPhase p next unit r phase }
+    ensures { result ≡ result_phase p next unit r phase }
 {
     match phase {
         Phase::Screen(c) => screened_result(p, next, unit, r, c),
@@ -246,8 +246,8 @@ fn result_phase(p: Plan, next: Plan, unit: u32, r: u32, phase: Phase) -> Moved
 }
 
 fn result_tally(r: u32, t: Tally) -> Tally
-    requires { (t.conforming ≤ highestUnit) × (t.defective ≤ highestUnit) }
-    ensures { result ≡ resultTally r t }
+    requires { (t.conforming ≤ highest_unit) × (t.defective ≤ highest_unit) }
+    ensures { result ≡ result_tally r t }
 {
     let owed = false;
     Tally {
@@ -261,8 +261,8 @@ fn result_tally(r: u32, t: Tally) -> Tally
 }
 
 fn result_moved(r: u32, m: Moved, s: Stream) -> Ruled
-    requires { (s.tally.conforming ≤ highestUnit) × (s.tally.defective ≤ highestUnit) }
-    ensures { result ≡ resultMoved r m s }
+    requires { (s.tally.conforming ≤ highest_unit) × (s.tally.defective ≤ highest_unit) }
+    ensures { result ≡ result_moved r m s }
 {
     let t = s.tally;
     let phase = m.phase;
@@ -275,7 +275,7 @@ fn result_moved(r: u32, m: Moved, s: Stream) -> Ruled
 
 pub fn result_rule(r: u32, s: Stream) -> Ruled
     requires { StreamFacts s × (s.tally.owed ≡ true) }
-    ensures { result ≡ resultRule r s }
+    ensures { result ≡ result_rule r s }
 {
     let p = s.plan;
     let waiting = s.waiting;
@@ -286,7 +286,7 @@ pub fn result_rule(r: u32, s: Stream) -> Ruled
 }
 
 pub fn interrupt_rule(s: Stream) -> Ruled
-    ensures { result ≡ interruptRule s }
+    ensures { result ≡ interrupt_rule s }
 {
     let last = s.tally.last;
     let cause = Event {
@@ -299,7 +299,7 @@ pub fn interrupt_rule(s: Stream) -> Ruled
 
 pub fn find_rule(s: Stream) -> Ruled
     requires { Findable s.phase }
-    ensures { result ≡ findRule s }
+    ensures { result ≡ find_rule s }
 {
     let phase = s.phase;
     let last = s.tally.last;
@@ -314,7 +314,7 @@ pub fn find_rule(s: Stream) -> Ruled
 }
 
 fn with_silence(ticks: u32, s: Stream) -> Stream
-    ensures { result ≡ withSilence (record { ticks = ticks; heard = false }) s }
+    ensures { result ≡ with_silence (record { ticks = ticks; heard = false }) s }
 {
     let left = Silence {
         ticks,
@@ -336,8 +336,8 @@ fn with_silence(ticks: u32, s: Stream) -> Stream
 }
 
 pub fn tick_rule(s: Stream) -> Ruled
-    requires { s.silence.ticks ≤ eventLimit }
-    ensures { result ≡ tickRule s }
+    requires { s.silence.ticks ≤ event_limit }
+    ensures { result ≡ tick_rule s }
 {
     if s.silence.heard {
         return Ruled {

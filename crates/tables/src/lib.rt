@@ -2,7 +2,7 @@
 mod figures;
 
 ghost use Rattle.std.specs.Prelude.{◌≡◌, ◌+◌, ◌*◌, ◌≤◌, ◌<◌};
-ghost use Rattle.rules.specs.Tables.{column, row, letterRow, inV, inIIIA4, planV, planIIIA4, lookUp};
+ghost use Rattle.rules.specs.Tables.{column, row, letter_row, in_v, in_iii_a_4, plan_v, plan_iii_a_4, look_up};
 
 use figures::{AQLS, ENDS, FREQUENCIES, TABLE_III_A_4, TABLE_V_I, TABLE_V_S};
 use rules::{CSP_F, CSP_T, Found, HIGHEST_UNIT, Plan};
@@ -21,7 +21,7 @@ fn column(aql: u32) -> usize
     k
 }
 
-// The row of N in Table III-A-4.
+// The row of N in Table iii_a_4.
 fn row(period: u32) -> usize
     ensures { (result ≡ row period) × (result ≤ 20) }
 {
@@ -38,7 +38,7 @@ fn row(period: u32) -> usize
 // The row of a letter in Table V: J and K share the last.
 fn letter_row(letter: u32) -> usize
     requires { (1 ≤ letter) × (letter ≤ 11) }
-    ensures { (result ≡ letterRow letter) × (result ≤ 9) }
+    ensures { (result ≡ letter_row letter) × (result ≤ 9) }
 {
     if letter == 11 {
         return 9;
@@ -48,14 +48,14 @@ fn letter_row(letter: u32) -> usize
 
 // Whether Table V has an entry.
 fn in_v(kind: u32, letter: u32, aql: u32, period: u32) -> bool
-    ensures { result ≡ inV kind letter aql period }
+    ensures { result ≡ in_v kind letter aql period }
 {
     (kind == CSP_T) & ((1 <= letter) & (letter <= 11)) & (column(aql) < 8) & (period == 0)
 }
 
-// Whether Table III-A-4 has an entry.
+// Whether Table iii_a_4 has an entry.
 fn in_iii_a_4(kind: u32, letter: u32, aql: u32, period: u32) -> bool
-    ensures { result ≡ inIIIA4 kind letter aql period }
+    ensures { result ≡ in_iii_a_4 kind letter aql period }
 {
     (kind == CSP_F)
         & ((1 <= letter) & (letter <= 8))
@@ -74,7 +74,7 @@ fn cell(down: usize, across: usize) -> usize
 // The entry of Table V.
 fn plan_v(letter: u32, aql: u32) -> Plan
     requires { (1 ≤ letter) × (letter ≤ 11) × (column aql < 8) }
-    ensures { result ≡ planV letter aql }
+    ensures { result ≡ plan_v letter aql }
 {
     let at = cell(letter_row(letter), column(aql));
     Plan {
@@ -87,10 +87,10 @@ fn plan_v(letter: u32, aql: u32) -> Plan
     }
 }
 
-// The entry of Table III-A-4.
+// The entry of Table iii_a_4.
 fn plan_iii_a_4(letter: u32, period: u32) -> Plan
     requires { (1 ≤ letter) × (letter ≤ 8) }
-    ensures { result ≡ planIIIA4 letter period }
+    ensures { result ≡ plan_iii_a_4 letter period }
 {
     let by_letter = (letter - 1) as usize;
     let at = cell(row(period), by_letter);
@@ -106,7 +106,7 @@ fn plan_iii_a_4(letter: u32, period: u32) -> Plan
 
 // The tables' entry for a type, a letter, an AQL in thousandths of a percent and a period.
 pub fn look_up(kind: u32, letter: u32, aql: u32, period: u32) -> Found
-    ensures { result ≡ lookUp kind letter aql period }
+    ensures { result ≡ look_up kind letter aql period }
 {
     if in_v(kind, letter, aql, period) {
         return Found::Plan(plan_v(letter, aql));

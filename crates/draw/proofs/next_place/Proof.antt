@@ -1,14 +1,14 @@
-use Rattle.rules.specs.Sampling.{nextPlace}
+use Rattle.rules.specs.Sampling.{next_place}
 use Rattle.std.proofs.Common.{rules, eq-eqb, ne_eqb}
 use Rattle.draw.proofs.next_place.Statement.{statement}
 use Rattle.draw.proofs.next_place.Tie as tie
 
 returns : tie.Need-returns
-unfolding nextPlace
+unfolding next_place
 returns c = search (rules, eq-eqb, ne_eqb)
 
 returns-2 : tie.Need-returns-2
-unfolding nextPlace
+unfolding next_place
 returns-2 c = search (rules, eq-eqb, ne_eqb)
 
 pub next-place-spec : {M : Type 1} → statement M

@@ -1,11 +1,11 @@
 use Rattle.rules.specs.Tests.{◌and◌, ◌or◌}
-use Rattle.rules.specs.Change.{notAllowed}
+use Rattle.rules.specs.Change.{not_allowed}
 use borrow.Author.Rules.{rules}
 use Rattle.record.proofs.not_allowed.Statement.{statement}
 use Rattle.record.proofs.not_allowed.Tie as tie
 
 returns : tie.Need-returns
-unfolding notAllowed ◌or◌ ◌and◌
+unfolding not_allowed ◌or◌ ◌and◌
 returns c = search rules
 
 pub not-allowed-spec : {M : Type 1} → statement M

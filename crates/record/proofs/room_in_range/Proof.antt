@@ -1,10 +1,10 @@
-use Rattle.rules.specs.Plan.{roomInRange}
+use Rattle.rules.specs.Plan.{room_in_range}
 use borrow.Author.Rules.{rules}
 use Rattle.record.proofs.room_in_range.Statement.{statement}
 use Rattle.record.proofs.room_in_range.Tie as tie
 
 returns : tie.Need-returns
-unfolding roomInRange
+unfolding room_in_range
 returns c = search rules
 
 pub room-in-range-spec : {M : Type 1} → statement M

@@ -1,11 +1,11 @@
 use Rattle.rules.specs.Tests.{◌or◌}
-use Rattle.rules.specs.Sound.{soundBegin}
+use Rattle.rules.specs.Sound.{sound_begin}
 use borrow.Author.Rules.{rules}
 use Rattle.record.proofs.sound_begin.Statement.{statement}
 use Rattle.record.proofs.sound_begin.Tie as tie
 
 returns : tie.Need-returns
-unfolding ◌or◌ soundBegin
+unfolding ◌or◌ sound_begin
 returns c = cc
 
 pub sound-begin-spec : {M : Type 1} → statement M

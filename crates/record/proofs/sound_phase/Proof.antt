@@ -1,14 +1,14 @@
-use Rattle.rules.specs.Sound.{soundPhase}
+use Rattle.rules.specs.Sound.{sound_phase}
 use borrow.Author.Rules.{rules}
 use Rattle.record.proofs.sound_phase.Statement.{statement}
 use Rattle.record.proofs.sound_phase.Tie as tie
 
 returns : tie.Need-returns
-unfolding soundPhase
+unfolding sound_phase
 returns c = rw c.before.before.phase.given.1 c.sound-screening.ensures
 
 returns-2 : tie.Need-returns-2
-unfolding soundPhase
+unfolding sound_phase
 returns-2 c = rw c.before.before.phase2.given.1 c.sound-sampling.ensures
 
 pub sound-phase-spec : {M : Type 1} → statement M

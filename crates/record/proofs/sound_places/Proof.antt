@@ -1,11 +1,11 @@
 use Rattle.rules.specs.Tests.{◌and◌, ◌or◌}
-use Rattle.rules.specs.Sound.{soundPlaces}
+use Rattle.rules.specs.Sound.{sound_places}
 use borrow.Author.Rules.{rules}
 use Rattle.record.proofs.sound_places.Statement.{statement}
 use Rattle.record.proofs.sound_places.Tie as tie
 
 returns : tie.Need-returns
-unfolding ◌and◌ ◌or◌ soundPlaces
+unfolding ◌and◌ ◌or◌ sound_places
 returns c = cc
 
 pub sound-places-spec : {M : Type 1} → statement M

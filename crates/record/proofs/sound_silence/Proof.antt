@@ -1,10 +1,10 @@
-use Rattle.rules.specs.Sound.{soundSilence}
+use Rattle.rules.specs.Sound.{sound_silence}
 use borrow.Author.Rules.{rules}
 use Rattle.record.proofs.sound_silence.Statement.{statement}
 use Rattle.record.proofs.sound_silence.Tie as tie
 
 returns : tie.Need-returns
-unfolding soundSilence
+unfolding sound_silence
 returns c = search rules
 
 pub sound-silence-spec : {M : Type 1} → statement M

@@ -1,6 +1,6 @@
 use native.Mathlib.Omega.{arith}
 use Rattle.rules.specs.Tests.{◌and◌}
-use Rattle.rules.specs.Sound.{soundTally}
+use Rattle.rules.specs.Sound.{sound_tally}
 use borrow.Author.Rules.{rules}
 use Rattle.record.proofs.sound_tally.Statement.{statement}
 use Rattle.record.proofs.sound_tally.Tie as tie
@@ -9,7 +9,7 @@ add-sum-4 : tie.Need-overflow-add-sum-4
 add-sum-4 c = omega (arith, c.counted.ensures.1)
 
 returns : tie.Need-returns
-unfolding ◌and◌ soundTally
+unfolding ◌and◌ sound_tally
 returns c = cc
 
 pub sound-tally-spec : {M : Type 1} → statement M

@@ -1,11 +1,11 @@
 use Rattle.rules.specs.Tests.{◌and◌}
-use Rattle.rules.specs.Sound.{soundWatch}
+use Rattle.rules.specs.Sound.{sound_watch}
 use borrow.Author.Rules.{rules}
 use Rattle.record.proofs.sound_watch.Statement.{statement}
 use Rattle.record.proofs.sound_watch.Tie as tie
 
 returns : tie.Need-returns
-unfolding ◌and◌ soundWatch
+unfolding ◌and◌ sound_watch
 returns c = cc
 
 pub sound-watch-spec : {M : Type 1} → statement M

@@ -8,7 +8,7 @@ use native.Mathlib.Omega.{arith}
 use borrow.Author.Tests.{eqb-true, eqb-false}
 use Rattle.recorder.specs.Course.{turns}
 use Rattle.recorder.specs.Turns.{Ready}
-use Rattle.recorder.proofs.Running.{Stands, next-turn, went_on, why-last, neither}
+use Rattle.recorder.proofs.Running.{Stands, next_turn, went_on, why_last, neither}
 use borrow.Author.Rules.{rules}
 use Rattle.recorder.proofs.run.Statement.{statement}
 use Rattle.recorder.proofs.run.Tie as tie
@@ -62,8 +62,8 @@ returns c =
     record {
       parts = l.invariant.0;
       part = g.part;
-      last = next-turn l.invariant.0 g.part l.t t.result _ _ _ _ _ l.invariant.1 t.result.came.over g.turns;
-      cause = why-last t.result.came.over t.result.handed.all (eqb l.turns 0) _ (λ e. omega (arith, l.invariant.3, eqb-true l.turns 0 e)) c.if1.true;
+      last = next_turn l.invariant.0 g.part l.t t.result _ _ _ _ _ l.invariant.1 t.result.came.over g.turns;
+      cause = why_last t.result.came.over t.result.handed.all (eqb l.turns 0) _ (λ e. omega (arith, l.invariant.3, eqb-true l.turns 0 e)) c.if1.true;
     }
 
 sub-turns : tie.Need-overflow-sub-turns invariant-loop decreases-loop

@@ -1,11 +1,11 @@
 -- `tables::plan_iii_a_4` meets its contract: the constant tables are the definition's lists. Assumes nothing.
 use borrow.Author.Rules.{rules}
-use Rattle.rules.specs.Tables.{planIIIA4, frequencies, tableIIIA4}
+use Rattle.rules.specs.Tables.{plan_iii_a_4, frequencies, table_iii_a_4}
 use Rattle.tables.proofs.plan_iii_a_4.Statement.{statement}
 use Rattle.tables.proofs.plan_iii_a_4.Tie as tie
 
 returns : tie.Need-returns
-unfolding planIIIA4 frequencies tableIIIA4
+unfolding plan_iii_a_4 frequencies table_iii_a_4
 returns c = cc
 
 pub plan-iii-a-4-spec : {M : Type 1} → statement M

@@ -1,11 +1,11 @@
 -- `tables::plan_v` meets its contract: the constant tables are the definition's lists. Assumes nothing.
 use borrow.Author.Rules.{rules}
-use Rattle.rules.specs.Tables.{planV, frequencies, tableVI, tableVS}
+use Rattle.rules.specs.Tables.{plan_v, frequencies, table_v_i, table_v_s}
 use Rattle.tables.proofs.plan_v.Statement.{statement}
 use Rattle.tables.proofs.plan_v.Tie as tie
 
 returns : tie.Need-returns
-unfolding planV frequencies tableVI tableVS
+unfolding plan_v frequencies table_v_i table_v_s
 returns c = cc
 
 pub plan-v-spec : {M : Type 1} → statement M

@@ -1,7 +1,7 @@
 -- m falls at each call.
 use Rattle.std.proofs.Common.{ℕ, ◌<◌, sym, arith, rules}
 use Rattle.rules.proofs.Pairs.{pairs}
-use Rattle.draw.proofs.Halving.{of-even, of-odd}
+use Rattle.draw.proofs.Halving.{of_even, of_odd}
 use borrow.Fn.Kinds.{In}
 use borrow.Fn.PlainCycle.{Measures, is, falls, and}
 use Rattle.draw.proofs.pairs.pair_of.Reads as pair-of
@@ -25,10 +25,10 @@ module _ (t : ℕ) where
   none c = rw c.if1.true (sym pairs.none)
 
   even : pair-of-lts.Need-returns-2 (below t, pair-of.Post, composed-reads.Asked, composed-reads.Learnt) (at t) pair-of.Post
-  even c = of-even _ _ _ c.before.before.pair-of.ensures c.before.composed.ensures c.if2.true
+  even c = of_even _ _ _ c.before.before.pair-of.ensures c.before.composed.ensures c.if2.true
 
   odd : pair-of-lts.Need-returns-3 (below t, pair-of.Post, composed-reads.Asked, composed-reads.Learnt) (at t) pair-of.Post
-  odd c = of-odd _ _ _ c.before.before.before.pair-of.ensures c.before.before.composed.ensures _ c.before.if2.false c.composed2.ensures
+  odd c = of_odd _ _ _ c.before.before.before.pair-of.ensures c.before.before.composed.ensures _ c.before.if2.false c.composed2.ensures
 
 pub +pair-of-spec : {M : Type 1} → statement M
 +pair-of-spec =

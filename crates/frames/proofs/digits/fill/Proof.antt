@@ -3,7 +3,7 @@ use mathlib.Core.Path.{◌≡◌}
 use lib.ListN.{length, length-set}
 use native.Mathlib.Omega.{arith}
 use borrow.Author.Rules.{rules}
-use Rattle.frames.proofs.Filled.{WeighsTo, weighs-more}
+use Rattle.frames.proofs.Filled.{WeighsTo, weighs_more}
 use Rattle.frames.proofs.digits.fill.Statement.{statement}
 use Rattle.frames.proofs.digits.fill.Tie as tie
 
@@ -19,7 +19,7 @@ loop-holds c = (search rules, search rules, λ k h. omega arith)
 loop-again : tie.Need-loop-preserved invariant-loop decreases-loop
 loop-again c =
     let l = c.before.before.loop in
-    let more = weighs-more l.weights l.b c.weight.result (omega arith) c.weight.ensures.0 l.invariant.2 in
+    let more = weighs_more l.weights l.b c.weight.result (omega arith) c.weight.ensures.0 l.invariant.2 in
     (simp length-set (omega arith), omega arith, more)
 
 returns : tie.Need-returns invariant-loop decreases-loop

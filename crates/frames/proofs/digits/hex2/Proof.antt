@@ -1,10 +1,10 @@
-use Rattle.frames.proofs.HexSum.{hex-sum}
+use Rattle.frames.proofs.HexSum.{hex_sum}
 use borrow.Author.Rules.{rules}
 use Rattle.frames.proofs.digits.hex2.Statement.{statement}
 use Rattle.frames.proofs.digits.hex2.Tie as tie
 
 returns : tie.Need-returns
-returns c = cc (hex-sum _ _ 2)
+returns c = cc (hex_sum _ _ 2)
 
 pub hex2-spec : {M : Type 1} → statement M
 hex2-spec = tie.close (tie.spec (λ c κs. search rules) (λ c κs. search rules) returns)

@@ -3,7 +3,7 @@ use native.Mathlib.Omega.{arith}
 use mathlib.Core.Path.{◌≡◌}
 use Prim.Native.Nat.{ℕ, ◌≤◌, ◌<◌, ◌-◌}
 use borrow.Author.Rules.{rules}
-use Rattle.frames.proofs.Plain.{eight-more}
+use Rattle.frames.proofs.Plain.{eight_more}
 use Rattle.frames.proofs.lines.skipped.Statement.{statement}
 use Rattle.frames.proofs.lines.skipped.Tie as tie
 
@@ -22,7 +22,7 @@ returns c = c.before.before.before.loop.invariant
 loop-again : tie.Need-loop-preserved invariant-loop decreases-loop
 loop-again c =
     let l = c.before.before.before.loop in let a = c.before.before.before.before.before.args in let t = c.before.before.loop-test.true in
-    (omega (arith, l.invariant), omega (arith, l.invariant, t), eight-more a.s.now l.at a.from l.invariant.2 (c.before.feed-in-eight.ensures c.if1.false))
+    (omega (arith, l.invariant), omega (arith, l.invariant, t), eight_more a.s.now l.at a.from l.invariant.2 (c.before.feed-in-eight.ensures c.if1.false))
 
 returns-2 : tie.Need-returns-2 invariant-loop decreases-loop
 returns-2 c = c.before.loop.invariant

@@ -1,40 +1,40 @@
 use Rattle.rules.specs.Tests.{◌and◌}
-use Rattle.rules.specs.Frames.{sevenWordFrame, isWord}
+use Rattle.rules.specs.Frames.{seven_word_frame, is_word}
 use borrow.Author.Tests.{eq-eqb, ne_eqb, lt-ltb, le-ltb}
 use borrow.Author.Rules.{rules}
 use Rattle.frames.proofs.reading.seven_word_frame.Statement.{statement}
 use Rattle.frames.proofs.reading.seven_word_frame.Tie as tie
 
 returns : tie.Need-returns
-unfolding sevenWordFrame isWord ◌and◌
+unfolding seven_word_frame is_word ◌and◌
 returns c = search (rules, eq-eqb, ne_eqb, lt-ltb, le-ltb)
 
 returns-2 : tie.Need-returns-2
-unfolding sevenWordFrame isWord ◌and◌
+unfolding seven_word_frame is_word ◌and◌
 returns-2 c = search (rules, eq-eqb, ne_eqb, lt-ltb, le-ltb)
 
 returns-3 : tie.Need-returns-3
-unfolding sevenWordFrame isWord ◌and◌
+unfolding seven_word_frame is_word ◌and◌
 returns-3 c = search (rules, eq-eqb, ne_eqb, lt-ltb, le-ltb)
 
 returns-4 : tie.Need-returns-4
-unfolding sevenWordFrame isWord ◌and◌
+unfolding seven_word_frame is_word ◌and◌
 returns-4 c = search (rules, eq-eqb, ne_eqb, lt-ltb, le-ltb)
 
 returns-5 : tie.Need-returns-5
-unfolding sevenWordFrame isWord ◌and◌
+unfolding seven_word_frame is_word ◌and◌
 returns-5 c = search (rules, eq-eqb, ne_eqb, lt-ltb, le-ltb)
 
 returns-6 : tie.Need-returns-6
-unfolding sevenWordFrame isWord ◌and◌
+unfolding seven_word_frame is_word ◌and◌
 returns-6 c = search (rules, eq-eqb, ne_eqb, lt-ltb, le-ltb)
 
 returns-7 : tie.Need-returns-7
-unfolding sevenWordFrame isWord ◌and◌
+unfolding seven_word_frame is_word ◌and◌
 returns-7 c = search (rules, eq-eqb, ne_eqb, lt-ltb, le-ltb)
 
 returns-8 : tie.Need-returns-8
-unfolding sevenWordFrame isWord ◌and◌
+unfolding seven_word_frame is_word ◌and◌
 returns-8 c = search (rules, eq-eqb, ne_eqb, lt-ltb, le-ltb)
 
 pub seven-word-frame-spec : {M : Type 1} → statement M

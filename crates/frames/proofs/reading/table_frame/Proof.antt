@@ -1,32 +1,32 @@
 use Rattle.rules.specs.Tests.{◌and◌}
-use Rattle.rules.specs.Frames.{tableFrame, isWord}
+use Rattle.rules.specs.Frames.{table_frame, is_word}
 use borrow.Author.Tests.{eq-eqb, ne_eqb, lt-ltb, le-ltb}
 use borrow.Author.Rules.{rules}
 use Rattle.frames.proofs.reading.table_frame.Statement.{statement}
 use Rattle.frames.proofs.reading.table_frame.Tie as tie
 
 returns : tie.Need-returns
-unfolding tableFrame isWord ◌and◌
+unfolding table_frame is_word ◌and◌
 returns c = search (rules, eq-eqb, ne_eqb, lt-ltb, le-ltb)
 
 returns-2 : tie.Need-returns-2
-unfolding tableFrame isWord ◌and◌
+unfolding table_frame is_word ◌and◌
 returns-2 c = search (rules, eq-eqb, ne_eqb, lt-ltb, le-ltb)
 
 returns-3 : tie.Need-returns-3
-unfolding tableFrame isWord ◌and◌
+unfolding table_frame is_word ◌and◌
 returns-3 c = search (rules, eq-eqb, ne_eqb, lt-ltb, le-ltb)
 
 returns-4 : tie.Need-returns-4
-unfolding tableFrame isWord ◌and◌
+unfolding table_frame is_word ◌and◌
 returns-4 c = search (rules, eq-eqb, ne_eqb, lt-ltb, le-ltb)
 
 returns-5 : tie.Need-returns-5
-unfolding tableFrame isWord ◌and◌
+unfolding table_frame is_word ◌and◌
 returns-5 c = search (rules, eq-eqb, ne_eqb, lt-ltb, le-ltb)
 
 returns-6 : tie.Need-returns-6
-unfolding tableFrame isWord ◌and◌
+unfolding table_frame is_word ◌and◌
 returns-6 c = search (rules, eq-eqb, ne_eqb, lt-ltb, le-ltb)
 
 pub table-frame-spec : {M : Type 1} → statement M

@@ -1,4 +1,4 @@
-use Rattle.frames.proofs.Replies.{gives-refused}
+use Rattle.frames.proofs.Replies.{gives_refused}
 use Rattle.rules.specs.declared.Refusal.TheVariants.{UnsoundRecord}
 use borrow.Author.Rules.{rules}
 use Rattle.frames.proofs.session.first_reply.Statement.{statement}
@@ -17,7 +17,7 @@ returns-4 : tie.Need-returns-4
 returns-4 c = rw c.before.before.before.before.before.frame4.given.1 (c.before.before.skip-reply.ensures c.before.before.before.before.before.before.before.before.before.args.q.now)
 
 returns-5 : tie.Need-returns-5
-returns-5 c = let a = c.before.before.before.before.before.before.before.before.args in rw c.before.before.before.before.enum_told.given.1 (gives-refused _ _ _ _ a.s a.q.now UnsoundRecord c.before.before.refused-reply.ensures)
+returns-5 c = let a = c.before.before.before.before.before.before.before.before.args in rw c.before.before.before.before.enum_told.given.1 (gives_refused _ _ _ _ a.s a.q.now UnsoundRecord c.before.before.refused-reply.ensures)
 
 pub first-reply-spec : {M : Type 1} → statement M
 first-reply-spec =

@@ -1,4 +1,4 @@
-use Rattle.frames.proofs.Replies.{gives-refused}
+use Rattle.frames.proofs.Replies.{gives_refused}
 use Rattle.rules.specs.declared.Refusal.TheVariants.{PlanOutOfRange}
 use borrow.Author.Rules.{rules}
 use Rattle.frames.proofs.session.found_reply.Statement.{statement}
@@ -8,7 +8,7 @@ returns : tie.Need-returns
 returns c = rw c.before.before.before.before.before.before.before.before.found.given.1 c.before.before.before.before.open-reply.ensures
 
 returns-2 : tie.Need-returns-2
-returns-2 c = let a = c.before.before.before.before.before.before.before.before.args in rw c.before.before.before.before.enum_told.given.1 (gives-refused _ _ _ _ a.s a.q.now PlanOutOfRange c.before.before.refused-reply.ensures)
+returns-2 c = let a = c.before.before.before.before.before.before.before.before.args in rw c.before.before.before.before.enum_told.given.1 (gives_refused _ _ _ _ a.s a.q.now PlanOutOfRange c.before.before.refused-reply.ensures)
 
 pub found-reply-spec : {M : Type 1} → statement M
 found-reply-spec =

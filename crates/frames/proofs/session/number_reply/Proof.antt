@@ -1,7 +1,7 @@
 use mathlib.Core.Path.{refl}
 use Rattle.rules.specs.Tests.{◌and◌}
 use Rattle.rules.specs.declared.Refusal.TheVariants.{IllFormed}
-use Rattle.frames.proofs.Replies.{gives-refused}
+use Rattle.frames.proofs.Replies.{gives_refused}
 use borrow.Author.Rules.{rules}
 use Rattle.frames.proofs.session.number_reply.Statement.{statement}
 use Rattle.frames.proofs.session.number_reply.Tie as tie
@@ -12,7 +12,7 @@ returns c queue = rw c.before.before.before.before.before.if1.true (record { ses
 
 returns-2 : tie.Need-returns-2
 unfolding ◌and◌
-returns-2 c queue = let a = c.before.before.before.before.before.before.args in rw c.before.before.before.before.if1.false (gives-refused _ _ _ _ a.s queue IllFormed c.before.before.refused-reply.ensures)
+returns-2 c queue = let a = c.before.before.before.before.before.before.args in rw c.before.before.before.before.if1.false (gives_refused _ _ _ _ a.s queue IllFormed c.before.before.refused-reply.ensures)
 
 pub number-reply-spec : {M : Type 1} → statement M
 number-reply-spec =

@@ -3,7 +3,7 @@ use lib.ListN.{length, take, drop, length-set}
 use native.Mathlib.Omega.{arith}
 use mathlib.Core.Path.{◌≡◌, refl}
 use borrow.Author.Rules.{rules}
-use Rattle.recorder.proofs.Moving.{one-moved}
+use Rattle.recorder.proofs.Moving.{one_moved}
 use Rattle.recorder.proofs.held.move_front.Statement.{statement}
 use Rattle.recorder.proofs.held.move_front.Tie as tie
 
@@ -19,7 +19,7 @@ loop-holds c = (search rules, refl, refl, refl)
 loop-again : tie.Need-loop-preserved invariant-loop decreases-loop
 loop-again c =
     let l = c.before.before.loop in let a = c.before.before.before.args in let i = l.invariant in
-    let m = one-moved l.text a.text.now a.from l.k (omega (arith, i, c.before.before.before.requires, c.before.loop-test.true)) i.3 i.1 i.2 in
+    let m = one_moved l.text a.text.now a.from l.k (omega (arith, i, c.before.before.before.requires, c.before.loop-test.true)) i.3 i.1 i.2 in
     (search rules, m.0, m.1, simp length-set i.3)
 
 returns : tie.Need-returns invariant-loop decreases-loop

@@ -1,10 +1,10 @@
-use Rattle.rules.specs.Calls.{numbersSpent}
+use Rattle.rules.specs.Calls.{numbers_spent}
 use borrow.Author.Rules.{rules}
 use Rattle.station.proofs.checks.numbers_spent.Statement.{statement}
 use Rattle.station.proofs.checks.numbers_spent.Tie as tie
 
 returns : tie.Need-returns
-unfolding numbersSpent
+unfolding numbers_spent
 returns c = search rules
 
 pub numbers-spent-spec : {M : Type 1} → statement M

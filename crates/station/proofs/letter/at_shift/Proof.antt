@@ -1,4 +1,4 @@
-use Rattle.rules.specs.Change.{atShift}
+use Rattle.rules.specs.Change.{at_shift}
 use borrow.Author.Rules.{rules}
 use Rattle.station.proofs.letter.at_shift.Statement.{statement}
 use Rattle.station.proofs.letter.at_shift.Tie as tie
@@ -10,7 +10,7 @@ taken-if-requires : tie.Need-taken-if-requires
 taken-if-requires c κs = search rules
 
 returns : tie.Need-returns
-unfolding atShift
+unfolding at_shift
 returns c = cc
 
 pub at-shift-spec : {M : Type 1} → statement M

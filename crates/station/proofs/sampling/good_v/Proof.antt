@@ -1,15 +1,15 @@
 use borrow.Author.Tests.{lt-ltb, le-ltb}
-use Rattle.rules.specs.Sampling.{goodV}
+use Rattle.rules.specs.Sampling.{good_v}
 use borrow.Author.Rules.{rules}
 use Rattle.station.proofs.sampling.good_v.Statement.{statement}
 use Rattle.station.proofs.sampling.good_v.Tie as tie
 
 returns : tie.Need-returns
-unfolding goodV
+unfolding good_v
 returns c = search (rules, lt-ltb, c.quiet.ensures, c.before.with-counts.ensures)
 
 returns-2 : tie.Need-returns-2
-unfolding goodV
+unfolding good_v
 returns-2 c = search (rules, le-ltb, c.quiet2.ensures)
 
 pub good-v-spec : {M : Type 1} → statement M

@@ -1,15 +1,15 @@
 use Rattle.rules.specs.Tests.{◌and◌}
-use Rattle.rules.specs.Sampling.{sampledBad}
+use Rattle.rules.specs.Sampling.{sampled_bad}
 use borrow.Author.Rules.{rules}
 use Rattle.station.proofs.sampling.sampled_bad.Statement.{statement}
 use Rattle.station.proofs.sampling.sampled_bad.Tie as tie
 
 returns : tie.Need-returns
-unfolding sampledBad ◌and◌
+unfolding sampled_bad ◌and◌
 returns c = simp (c.before.if1.true, c.with-counts.ensures)
 
 returns-2 : tie.Need-returns-2
-unfolding sampledBad ◌and◌
+unfolding sampled_bad ◌and◌
 returns-2 c = simp (c.before.before.if1.false, c.revert.ensures, c.before.need-after-sampling.ensures)
 
 pub sampled-bad-spec : {M : Type 1} → statement M

@@ -1,23 +1,23 @@
 use borrow.Author.Tests.{eq-eqb, ne_eqb}
-use Rattle.rules.specs.Sampling.{sampledGood}
+use Rattle.rules.specs.Sampling.{sampled_good}
 use borrow.Author.Rules.{rules}
 use Rattle.station.proofs.sampling.sampled_good.Statement.{statement}
 use Rattle.station.proofs.sampling.sampled_good.Tie as tie
 
 returns : tie.Need-returns
-unfolding sampledGood
+unfolding sampled_good
 returns c = search (rules, eq-eqb, c.good-t.ensures)
 
 returns-2 : tie.Need-returns-2
-unfolding sampledGood
+unfolding sampled_good
 returns-2 c = search (rules, eq-eqb, ne_eqb, c.good-v.ensures)
 
 returns-3 : tie.Need-returns-3
-unfolding sampledGood
+unfolding sampled_good
 returns-3 c = search (rules, eq-eqb, ne_eqb, c.good.ensures)
 
 returns-4 : tie.Need-returns-4
-unfolding sampledGood
+unfolding sampled_good
 returns-4 c = search (rules, ne_eqb, c.quiet.ensures)
 
 pub sampled-good-spec : {M : Type 1} → statement M

@@ -1,10 +1,10 @@
-use Rattle.rules.specs.Screening.{screenedBad}
+use Rattle.rules.specs.Screening.{screened_bad}
 use borrow.Author.Rules.{rules}
 use Rattle.station.proofs.screening.screened_bad.Statement.{statement}
 use Rattle.station.proofs.screening.screened_bad.Tie as tie
 
 returns : tie.Need-returns
-unfolding screenedBad
+unfolding screened_bad
 returns c = cc
 
 pub screened-bad-spec : {M : Type 1} → statement M

@@ -1,15 +1,15 @@
 use borrow.Author.Tests.{eq-eqb, ne_eqb}
-use Rattle.rules.specs.Screening.{screenedGood}
+use Rattle.rules.specs.Screening.{screened_good}
 use borrow.Author.Rules.{rules}
 use Rattle.station.proofs.screening.screened_good.Statement.{statement}
 use Rattle.station.proofs.screening.screened_good.Tie as tie
 
 returns : tie.Need-returns
-unfolding screenedGood
+unfolding screened_good
 returns c = search (rules, eq-eqb, c.start-sampling.ensures)
 
 returns-2 : tie.Need-returns-2
-unfolding screenedGood
+unfolding screened_good
 returns-2 c = search (rules, ne_eqb)
 
 pub screened-good-spec : {M : Type 1} → statement M

@@ -1,11 +1,11 @@
-use Rattle.rules.proofs.Facts.{block-high}
+use Rattle.rules.proofs.Facts.{block_high}
 use native.Mathlib.Omega.{arith}
 use borrow.Author.Rules.{rules}
 use Rattle.station.proofs.stream.arrive.Statement.{statement}
 use Rattle.station.proofs.stream.arrive.Tie as tie
 
 cast-arrived-sampling : tie.Need-overflow-cast-arrived-sampling
-cast-arrived-sampling c = omega (arith, block-high c.before.before.before.before.args.p c.before.before.phase2.given.0.0.level c.before.before.before.before.requires.0, c.block-length.ensures)
+cast-arrived-sampling c = omega (arith, block_high c.before.before.before.before.args.p c.before.before.phase2.given.0.0.level c.before.before.before.before.requires.0, c.block-length.ensures)
 
 arrived-sampling-requires : tie.Need-arrived-sampling-requires
 arrived-sampling-requires c κs = rw c.before.before.phase2.given.1 at c.before.before.before.before.requires.1

@@ -1,10 +1,10 @@
-use Rattle.rules.specs.Stream.{resultTally}
+use Rattle.rules.specs.Stream.{result_tally}
 use borrow.Author.Rules.{rules}
 use Rattle.station.proofs.stream.result_tally.Statement.{statement}
 use Rattle.station.proofs.stream.result_tally.Tie as tie
 
 returns : tie.Need-returns
-unfolding resultTally
+unfolding result_tally
 returns c = cc
 
 pub result-tally-spec : {M : Type 1} → statement M

@@ -1,15 +1,15 @@
 use borrow.Author.Tests.{eq-eqb, ne_eqb}
-use Rattle.rules.specs.Stream.{resultPhase}
+use Rattle.rules.specs.Stream.{result_phase}
 use borrow.Author.Rules.{rules}
 use Rattle.station.proofs.stream.sampled_result.Statement.{statement}
 use Rattle.station.proofs.stream.sampled_result.Tie as tie
 
 returns : tie.Need-returns
-unfolding resultPhase
+unfolding result_phase
 returns c = search (rules, eq-eqb, c.sampled-good.ensures)
 
 returns-2 : tie.Need-returns-2
-unfolding resultPhase
+unfolding result_phase
 returns-2 c = search (rules, ne_eqb, c.sampled-bad.ensures)
 
 pub sampled-result-spec : {M : Type 1} → statement M

@@ -1,14 +1,14 @@
-use Rattle.rules.specs.Stream.{tickRule}
+use Rattle.rules.specs.Stream.{tick_rule}
 use borrow.Author.Rules.{rules}
 use Rattle.station.proofs.stream.tick_rule.Statement.{statement}
 use Rattle.station.proofs.stream.tick_rule.Tie as tie
 
 returns : tie.Need-returns
-unfolding tickRule
+unfolding tick_rule
 returns c = simp (c.before.if1.true, c.with-silence.ensures)
 
 returns-2 : tie.Need-returns-2
-unfolding tickRule
+unfolding tick_rule
 returns-2 c = simp (c.before.before.if1.false, c.with-silence2.ensures)
 
 pub tick-rule-spec : {M : Type 1} → statement M
