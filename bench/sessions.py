@@ -114,15 +114,6 @@ def takes(frames):
     return turns(words(1, CSP_1, 2, 1, 1, 0, 0, 0), [words(6)] * 6 + [words(7)] * 7, frames)
 
 
-# ---- The generator
-
-def skips(frames):
-    """Draws skipped from any state, by any m: half of all m have their highest bit, and are halved 32 times."""
-    chosen = random.Random(1)
-    asked = (words(14, chosen.getrandbits(32), chosen.getrandbits(32)) for _ in range(frames - 1))
-    return lines(words(1, CSP_1, 2, 1, 1, 0, 0, 0), *asked)
-
-
 # ---- Lines that are refused
 
 def before_open(frames):
@@ -159,7 +150,7 @@ def ill_formed(frames):
 
 
 WRITERS = (
-    mixed, mixed_1, mixed_F, mixed_T, mixed_V, screening, sampling, changes, tick_storm, takes, skips, before_open, refused, ill_formed,
+    mixed, mixed_1, mixed_F, mixed_T, mixed_V, screening, sampling, changes, tick_storm, takes, before_open, refused, ill_formed,
 )
 SESSIONS = {write.__name__.replace('_', '-'): write for write in WRITERS}
 

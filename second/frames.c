@@ -8,7 +8,6 @@ enum {
     QUEUE_ROOM = 8,
     LINE_MAX_CHARS = 80,
     FRAME_WORDS = 7,
-    NO_FRAME = MISTAKE == 47 ? 0 : 0xFF,    /* more words than a line has */
     STATION_NUMBER_MAX = 65535,
     ANSWER_CHARS = 33,
     CHUNK = 1 << 16
@@ -16,7 +15,7 @@ enum {
 
 enum code {
     OPEN = 1, UNIT, RESULT, STOP, FIND, TICK, TAKE, OPEN_TABLE, CHANGE,
-    STATION_NUMBER, SKIP = 0x0E, CODES
+    STATION_NUMBER, CODES
 };
 
 struct frame {
@@ -31,9 +30,7 @@ struct recorder {
     int open;
 };
 
-static const uint8_t words_of[CODES] = {
-    0, 7, 1, 1, 0, 0, 0, 0, 5, 7, 1, NO_FRAME, NO_FRAME, NO_FRAME, 2
-};
+static const uint8_t words_of[CODES] = { 0, 7, 1, 1, 0, 0, 0, 0, 5, 7, 1 };
 
 static struct recorder recorder;
 static char input[LINE_MAX_CHARS + CHUNK];
@@ -137,28 +134,6 @@ static struct answer open_station(struct recorder *r, const struct frame *f)
     return a;
 }
 
-/* Document 02, W7: it is no call, so it is taken at any time and touches
-   nothing. */
-static struct answer skip(struct recorder *r, const uint32_t *w)
-{
-    uint32_t state = MISTAKE == 41 ? skip_draws(w[1], w[0])
-                                   : skip_draws(w[0], w[1]);
-
-    if (MISTAKE == 37 && !r->open)
-        return refuse(BAD_RECORD);
-    if (MISTAKE == 38 && r->open)
-        return refuse(ILL_FORMED);
-    if (MISTAKE == 44 && r->station.owed)
-        return refuse(RESULT_OWED);
-    if (MISTAKE == 39)
-        r->station.generator = state;
-    if (MISTAKE == 45)
-        r->station.heard = 1;
-    if (MISTAKE == 46)
-        r->station_number = state;
-    return (struct answer){ .value = state };
-}
-
 static struct answer change(struct recorder *r, const uint32_t *w)
 {
     struct plan plan = { w[0], w[1], w[2], w[3], w[4], w[5] };
@@ -184,19 +159,16 @@ static struct answer call(struct recorder *r, const struct frame *f)
 
 static struct answer answer_frame(struct recorder *r, const struct frame *f)
 {
-    switch (f->code) {
-    case OPEN:
-    case OPEN_TABLE:
-        return r->open ? refuse(ILL_FORMED) : open_station(r, f);
-    case STATION_NUMBER:
-        if (r->open && MISTAKE != 33)
-            return refuse(ILL_FORMED);
+    int gives = f->code == STATION_NUMBER;
+    int opens = f->code == OPEN || f->code == OPEN_TABLE;
+
+    if ((opens || (gives && MISTAKE != 33)) && r->open)
+        return refuse(ILL_FORMED);
+    if (gives)
         return give_number(r, f->words[0]);
-    case SKIP:
-        return skip(r, f->words);
-    default:
-        return r->open ? call(r, f) : refuse(BAD_RECORD);
-    }
+    if (opens)
+        return open_station(r, f);
+    return r->open ? call(r, f) : refuse(BAD_RECORD);
 }
 
 static char *print_answer(char *to, const struct answer *a)

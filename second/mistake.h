@@ -1,4 +1,4 @@
-/* A build with MISTAKE 1 to 47 makes one mistake that looks right: README.md
+/* A build with MISTAKE 1 to 33 makes one mistake that looks right: README.md
    lists them. */
 #ifndef MISTAKE_H
 #define MISTAKE_H

@@ -1,6 +1,6 @@
-/* The station of document 01, with W1, W2, W4 and W7 of document 02: a change
-   of plan, a check find that leaves screened as it is, a gap marker that tells
-   how many LONG events were lost, and draws that are skipped. */
+/* The station of document 01, with W1, W2 and W4 of document 02: a change of
+   plan, a check find that leaves screened as it is, and a gap marker that tells
+   how many LONG events were lost. */
 #ifndef STATION_H
 #define STATION_H
 
@@ -74,9 +74,6 @@ struct answer station_tick(struct station *st, struct memory mem);
 struct answer station_take(struct station *st, struct memory mem);
 struct answer station_change(struct station *st, struct memory mem,
                              const struct plan *plan, int demand);
-
-/* The generator's state after m steps: of no station, and no call. */
-uint32_t skip_draws(uint32_t state, uint32_t m);
 
 /* Fills in the plan of a table; 0 when there is no such entry. */
 int table_plan(uint32_t type, uint32_t letter, uint32_t aql, uint32_t N,

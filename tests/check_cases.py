@@ -1,6 +1,5 @@
 """The model against the documents' own numbers: document 01's example, its nine cases and what it says of the tables, and
-the sentences of document 02 on a change of plan, on a check find, on what a gap marker has lost, on a station number and on
-skipping draws.
+the sentences of document 02 on a change of plan, on a check find, on what a gap marker has lost and on a station number.
 
 Every other part compares with the model, so the model must have been held to the document first.
 """
@@ -9,9 +8,9 @@ import model
 from check_stored import FOLDER
 from model import (
     CHECK, CSP_1, CSP_2, CSP_F, CSP_T, CSP_V, DEFECT, DONE, INTERRUPT, LONG, PHASE, PLAN, SAMPLING, SCREENING, SILENCE, START,
-    TABLE_III_A_4, TABLE_V, WORD, refused, skip, step,
+    TABLE_III_A_4, TABLE_V, refused,
 )
-from script import Script, words
+from script import Script
 
 EXAMPLE = b'''\
 00 00 00000000 00000000 00000000
@@ -37,14 +36,14 @@ def check(report, pair, options):
     for number, case in enumerate(cases, 1):
         for at, holds in enumerate(case(), 1):
             report.check(holds, f'the model breaks document 01\'s case {number}, at its check {at}')
-    for request, requested in (('W1', CHANGES), ('W2', FINDS), ('W4', LOSSES), ('W6', NUMBERS), ('W7', SKIPS)):
+    for request, requested in (('W1', CHANGES), ('W2', FINDS), ('W4', LOSSES), ('W6', NUMBERS)):
         for case in requested:
             for at, holds in enumerate(case(), 1):
                 report.check(holds, f'the model breaks {request} in {case.__name__}, at its check {at}')
     for law, holds in table_laws().items():
         report.check(holds, f'the model\'s tables: {law}')
     laws = f'{len(FINDS)} laws of a find, {len(LOSSES)} of what a marker has lost, {len(NUMBERS)} of a station number'
-    requests = f'{len(CHANGES)} changes of plan, {laws}, {len(SKIPS)} of a skip'
+    requests = f'{len(CHANGES)} changes of plan, {laws}'
     return f'the example, {len(cases)} cases, {requests} and {len(table_laws())} laws of the tables'
 
 
@@ -524,70 +523,6 @@ NUMBERS = (
     number_is_the_seed, number_out_of_range, nine_before_three, stays_after_refused_opens, written_seed_wins, number_after_an_open,
     two_neighbours,
 )
-
-
-# ---- W7: skipping draws
-
-STATES = (0, 1, 0x2545F491, 2 ** 31 - 1, 2 ** 31, WORD - 1)
-
-
-def skip_is_steps():
-    """Of 0 steps nothing, of 1 the step, and of m as many of them; from 0 the states of document 01's case 1."""
-    yield [skip(0, m) for m in range(4)] == [0, 0x3C6EF35F, 0x47502932, 0xD1CCF6E9]
-    for state in STATES:
-        stepped = [state]
-        while len(stepped) < 1_000:
-            stepped.append(step(stepped[-1]))
-        yield [skip(state, m) for m in range(1_000)] == stepped
-
-
-def skip_adds():
-    """Skipping a and then b is skipping a + b, whenever the sum fits 32 bits, and in either order."""
-    sums = (0, 1, 2, 65_535, 65_536, 2 ** 31 - 1, 2 ** 31, WORD - 2, WORD - 1)
-    for state in STATES:
-        both = [(a, total - a) for total in sums for a in {0, 1, total // 3, total // 2, total} if a <= total]
-        yield all(skip(skip(state, a), b) == skip(state, a + b) == skip(skip(state, b), a) for a, b in both)
-
-
-def skip_all_round():
-    """The addend is odd and the multiplier 1 more than a multiple of 4, so the states come round after 2^32 steps and no sooner, and
-    half way round the highest bit alone is another: what so many steps come to is known without taking them."""
-    for state in STATES:
-        yield step(skip(state, WORD - 1)) == state == skip(step(state), WORD - 1)
-        yield skip(state, 2 ** 31) == state ^ 2 ** 31
-
-
-def skip_at_any_time():
-    """Before an open, after one, while a result is owed, and with a gap untold; it touches nothing."""
-    script = Script()
-    yield script.skip(0, 3) == (0, 0, 0, 0, 0xD1CCF6E9) and script.station is None
-    script.station_number(7)
-    yield script.skip(7, 0) == (0, 0, 0, 0, 7) and without_seed(script) == DONE and script.station.s == 7
-    for turn in (script.tick, script.unit, lambda: script.result(0), lambda: script.good(5), lambda: script.tick(9)):
-        turn()
-        before = script.station.words(), list(script.program.queue)
-        yield script.skip(WORD - 1, 1) == (0, 0, 0, 0, step(WORD - 1))
-        yield (script.station.words(), script.program.queue) == before
-
-
-def skip_in_two_words():
-    """Any other number of them is ill-formed, as are the codes about it."""
-    for count in (0, 1, 3, 7):
-        yield Script().line(words(14, *[1] * count)) == refused(9)
-    for code in (11, 12, 13, 15, 16):
-        yield Script().line(words(code, 0, 1)) == refused(9)
-
-
-def draws_taken_up():
-    """A block is one step: after m blocks begun the generator stands where m steps from the seed lead."""
-    script = opened(CSP_T, 3, 2, seed=0x2545F491)
-    script.good(2)
-    for begun in range(1, 9):
-        script.good()
-        yield script.station.s == skip(0x2545F491, begun)
-
-
-SKIPS = (skip_is_steps, skip_adds, skip_all_round, skip_at_any_time, skip_in_two_words, draws_taken_up)
 
 
 # ---- The tables

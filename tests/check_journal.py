@@ -76,18 +76,6 @@ REFUSED = '''\
         3  refused                          9: an ill-formed frame, a result neither 0 nor 1, a second open, no seed, or a station number too late or out of range
 No event is told; this file cannot tell what was raised.
 '''
-# The states that frames 0E have given, between an order and an event: 0 and 1 look like other answers.
-STATES = '''\
-     line  event         number       unit  what it says
-        1  accepted                         state 0x3C6EF35F
-        2  accepted
-        3  accepted                         inspect
-        4  accepted                         state 0x2
-        5  START              1             clearance number 2
-        6  accepted                         state 0xFFFFFFFF
-Event 1: all accounted for; this file cannot tell what came after 1.
-Alarms up to event 1: 0 LONG told, 0 raised; no alarm was lost.
-'''
 # Events and markers of three journals: document 01's case 9; one that lost alarms; the same with a line torn out of it.
 CASE_9 = '''\
      line  event         number       unit  what it says
@@ -193,7 +181,7 @@ OUT_OF_PLACE = [
     (0, 9, 2, 0, 0), (0, 9, 2, 0, 2 ** 32 - 1), (0, 9, 2, 0, 7_999_992), (0, 5, 2, 1, 0), (0, 5, 2, 1_000_000, 1),
     (0, 5, 2, 0, 1), (0, 6, 2, 0, 0), (0, 7, 2, 0, 0), (0, 7, 2, 1, 1), (0, 8, 2, 0, 1), (0, 2, 2, 0, 1), (0, 4, 2, 0, 0),
     (0, 6, 2, 1_000_001, 1), (0, 1, 2, 0, 2), (12, 0, 0, 0, 0), (4, 0, 0, 0, 1), (4, 1, 1, 0, 1), (0, 0, 1, 0, 0),
-    (0, 0, 0, 1, 0), (0, 0, 1, 1, 0x3C6EF35F), (9, 0, 0, 0, 0x3C6EF35F), (0, 10, 2, 1, 0), (0, 10, 2, 1, 1), (0, 10, 2, 1, 201),
+    (0, 0, 0, 0, 2), (0, 10, 2, 1, 0), (0, 10, 2, 1, 1), (0, 10, 2, 1, 201),
 ]
 # The entries (kind, unit, value) from event 1 on; the last two are one that a station can write there, and one that
 # none can, with a part of what is said of it.
@@ -488,7 +476,6 @@ def check(report, pair, options):
     says(report, 'the example', (FOLDER / 'example.out').read_bytes(), EXAMPLE)
     says(report, 'every kind', lines(*KINDS), EVERY_KIND, '--events')
     says(report, 'refusals that a request has touched', lines((10, 0, 0, 0, 0), (11, 0, 0, 0, 0), (9, 0, 0, 0, 0)), REFUSED)
-    states(report)
     for name, text, status, *closing in closings():
         closes(report, name, text, status, ''.join(f'{line}\n' for line in closing))
     lost_alarms(report)
@@ -505,14 +492,6 @@ def check(report, pair, options):
             f'{len(HISTORIES) + len(KNOWN) + len(UNCHANGED)} histories that no station could write, {len(TAKEN_UP)} changes of plan, '
             f'{heard:,} events of random sessions, {over:,} LONG counted over a find; '
             f'of {tried:,} changed journals {caught:,} caught; {random_alarms(report, options)}')
-
-
-def states(report):
-    """A value with no event is a state; where events alone are wanted it has no row."""
-    answers = lines(*((0, 0, 0, 0, state) for state in (0x3C6EF35F, 0, 1, 2))) + told(1) + lines((0, 0, 0, 0, 2 ** 32 - 1))
-    says(report, 'states', answers, STATES)
-    events = ''.join(row for row in STATES.splitlines(keepends=True) if '  accepted' not in row)
-    says(report, 'states among events', answers, events, '--events')
 
 
 def closings():

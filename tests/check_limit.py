@@ -87,13 +87,11 @@ def two_left():
 
 
 def no_more():
-    """Every call but open and take, whether it could be done or not; faults of form and a second open come before it, and a skip is
-    no call."""
+    """Every call but open and take, whether it could be done or not; faults of form and a second open come before it."""
     calls = [words(2, 2), words(2, 3), words(2, 0), words(3, 0), words(3, 2), words(4), words(5), words(6)]
     calls += [words(9, *plan, demand) for plan in (LOWER, EQUAL, OTHER_TYPE) for demand in (0, 1)]
     yield from ((frame, refused(10)) for frame in calls)
     yield from ((frame, refused(9)) for frame in (OPEN, b'6', words(9, *LOWER, 2)))
-    yield words(14, 0, 1), (0, 0, 0, 0, 0x3C6EF35F)
 
 
 def the_journal(events):

@@ -33,7 +33,6 @@ MISFITS = (
 )
 FOLLOWING = '`spec`: `returns` was not admitted (it has holes or undetermined implicits, or was rejected), so this cannot be checked'
 OWN, OTHERS = 'proofs/product/Proof.antt:9:14', 'proofs/place/Proof.antt:9:14'
-OF_A_CYCLE = 'proofs/+product/Proof.antt:9:14', 'proofs/+place/Proof.antt:9:14'
 # What a log says of the declaration `find-shows` of proofs/Runs.antt, and of others.
 RUNS, FACT = 'proofs/Runs.antt:301:40', '`find-shows`: expected type `Shows a`, but this has type `Shows b`'
 NOT_ITS_OWN = {
@@ -92,10 +91,7 @@ def check(report, pair, options):
     expect(report, log((OWN, FOLLOWING)), False, 'it only follows from another')
     expect(report, log(), False, 'nothing is said')
     expect(report, log(verdict='no proof: expected `s` in p; `search` does not close `returns`'), True, 'a search fails')
-    own, others = OF_A_CYCLE
-    expect(report, log((own, FACTS[0])), True, 'a fact fails of a function that calls itself')
-    for other in (OTHERS, others):
-        report.check(refusal_of_function(log((other, FACTS[0])), 'draw', 'product'), f'must-fail: an error of another function counts, {other}')
+    report.check(refusal_of_function(log((OTHERS, FACTS[0])), 'draw', 'product'), 'must-fail: an error of another function counts')
     report.check(refusal_of_function(log((OWN, FACTS[0]), verdict='proved'), 'draw', 'product'), 'must-fail: a proved function counts')
     report.check(refusal_of_function(log((OWN, FACTS[0])), 'draw', 'step'), 'must-fail: a function that is not named counts')
     check_definitions(report)

@@ -19,9 +19,9 @@ AGREED = 0.75
 # Refusal 10 comes after eight million events, and no history makes the records that 24 and 25 judge otherwise: these show
 # in calls alone.
 IN_CALLS_ALONE = (9, 24, 25)
-# W6's: a station number is the session's and no part of a record, and the library's open always has a seed. W7's: frame 0E is no
-# call. No call may be answered otherwise.
-IN_SESSIONS_ALONE = range(26, 48)
+# W6's: a station number is the session's and no part of a record, and the library's open always has a seed. No call may
+# be answered otherwise.
+IN_SESSIONS_ALONE = range(26, 34)
 
 
 def check(report, pair, options):

@@ -47,16 +47,16 @@ def frames(chosen, type, size):
         k += 1 if chosen.random() < 0.999 else chosen.randrange(1, 50)
         turn = [words(2, k), words(3, chosen.random() < 0.1)]
         if chosen.random() < 0.3:
-            turn.append(chosen.choice((aside, words_of_chance, broken, change, number, skip))(chosen, type))
+            turn.append(chosen.choice((aside, words_of_chance, broken, change, number))(chosen, type))
         parts += turn
         length += sum(map(len, turn)) + len(turn)
     return b'\n'.join(parts) + chosen.choice((b'', b'\n'))
 
 
 def opening(chosen, type):
-    """Station numbers, skips and table opens of no entry, a number that is taken, and an open: CSP-T's from a table, without a seed."""
+    """Station numbers and table opens of no entry, a number that is taken, and an open: CSP-T's from a table, without a seed."""
     for _ in range(EARLY):
-        yield chosen.choice((number(chosen, type), skip(chosen, type), words(8, type, 12, 400, 0)))
+        yield chosen.choice((number(chosen, type), words(8, type, 12, 400, 0)))
     yield words(10, chosen.choice(NUMBERS))
     S, x, N = 0 if type == CSP_F else 5, 2 if type == CSP_V else 0, 1_000_000 if type == CSP_F else 0
     yield words(8, type, 1, 10_000, 0) if type == CSP_T else words(1, type, 2, 3, S, x, N, chosen.getrandbits(32))
@@ -65,10 +65,6 @@ def opening(chosen, type):
 def number(chosen, type):
     """Near the ends of the range."""
     return words(10, chosen.choice(NEAR_NUMBERS))
-
-
-def skip(chosen, type):
-    return words(14, *(chosen.choice((chosen.choice(ODD), chosen.getrandbits(32))) for _ in range(2)))
 
 
 def change(chosen, type):
@@ -85,10 +81,10 @@ def aside(chosen, type):
 
 def words_of_chance(chosen, type):
     numbers = [chosen.choice((*ODD, chosen.getrandbits(32))) for _ in range(chosen.choice((0, 1, 1, 1, 2, 4, 5, 7)))]
-    return words(chosen.choice((1, 3, 8, 9, 10, 14, chosen.randrange(256))), *numbers)
+    return words(chosen.choice((1, 3, 8, 9, 10, chosen.randrange(256))), *numbers)
 
 
 def broken(chosen, type):
-    line = bytearray(words(chosen.choice((*range(1, 11), 14)), *[chosen.getrandbits(32)] * chosen.choice((0, 1, 2, 7))))
+    line = bytearray(words(chosen.randrange(1, 11), *[chosen.getrandbits(32)] * chosen.choice((0, 1, 7))))
     line[chosen.randrange(len(line))] = chosen.choice(b' \t\r0aFG-\x00\x80')
     return bytes(line)

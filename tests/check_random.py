@@ -1,8 +1,7 @@
 """Seeded random sessions: the model, the recorder and the second program, byte for byte.
 
 Every record that the model reaches in them must be sound, as document 01 says, and count the LONG events of the gap that
-is not told yet: those which the history has under its numbers, as document 02 says. Where a session asks for it, the
-generator must stand where as many steps from the seed as blocks were begun lead.
+is not told yet: those which the history has under its numbers, as document 02 says.
 """
 
 from collections import Counter
@@ -14,11 +13,8 @@ from parallel import in_parallel
 from reached import GOALS
 
 PORTION = 20
-# A field of a record one too high, by what the driver sees it, and what it must say: with a gap of five silences lost may be 1 and is 0.
-TOO_HIGH = {
-    'lost': (Driver.tick, 'lost is not the number of LONG events in the gap'), 'defective': (Driver.tick, 'the record is not sound'),
-    's': (Driver.skip_to_the_generator, 'the generator does not stand where as many steps as blocks begun lead'),
-}
+# A field of a record one too high, and what the driver must say of it: with a gap of five silences lost may be 1 and is 0.
+TOO_HIGH = {'lost': 'lost is not the number of LONG events in the gap', 'defective': 'the record is not sound'}
 
 
 def check(report, pair, options):
@@ -39,14 +35,13 @@ def check(report, pair, options):
 
 def looked_at(report):
     """A driver that no longer looked at the records would find no fault in them either."""
-    for field, (look, due) in TOO_HIGH.items():
+    for field, due in TOO_HIGH.items():
         driver = Driver(field)
         driver.open(CSP_1, 2, 1)
         driver.tick(12)
-        look(driver)
         good = driver.faults == []
         setattr(driver.station, field, getattr(driver.station, field) + 1)
-        look(driver)
+        driver.tick()
         said = [fault.endswith(due) for fault in driver.faults]
         report.check(good and said == [True], f'a driver says of a record with {field} one too high: {driver.faults}')
 

@@ -83,17 +83,7 @@ Summary
              3 to 8  sampling level 0
              [##000000]
              one sign a unit: # screening, 0 1 2 sampling level, . a missed stretch, ? not told
-  draws      3 blocks begun, the last at unit 7; a station opened with seed 0xD1CCF6E9 draws on from there
 Every event from 1 to 2 was taken and none is missing.
-'''
-SKIPS_BETWEEN = '''\
-        1  open CSP-1 n 2 i 9 S 9 seed 0x0
-   2 to 5  units 1 to 2: inspected, conforming
-        6  skip 1 step from 0x0: 0x3C6EF35F
-  7 to 10  units 3 to 4: inspected, conforming
-       11  unit 5: inspect
-       12  skip 2 steps from 0x0: 0x47502932
-       13  result: conforming
 '''
 MISSED_ROWS = '''\
      frame  call and answer         event         number       unit  what it says
@@ -118,7 +108,6 @@ def check(report, pair, options):
     report.check(in_doubt == IN_DOUBT, f'stored sessions in doubt of where a run began: {in_doubt}')
     as_asked(report)
     worded(report)
-    skips_between(report)
     for at in range(count):
         random_session(report, f'runs-{options.seed}-{at}', Stretches if at % 2 else Driver)
     forged(report)
@@ -510,19 +499,6 @@ def worded(report):
         heard = Heard(script.text(), script.expected())
         said = (*heard.part('unseen'), *heard.part('left'))
         report.check(said == due, f'bin/session says after {what.__name__}: {said}')
-
-
-def skips_between(report):
-    """A frame 0E parts the units before it from those behind it, and a unit from its result."""
-    script = opened(i=9)
-    script.good(2)
-    script.skip(0, 1)
-    script.good(2)
-    script.unit()
-    script.skip(0, 2)
-    script.result(0)
-    unfolded, short = rows_of(script.text(), script.expected())
-    report.check(short == SKIPS_BETWEEN and unfold(short) == unfolded, f'bin/session --runs has frames 0E like this:\n{short}')
 
 
 def random_session(report, name, driver):

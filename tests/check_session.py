@@ -70,7 +70,6 @@ Summary
              6       screening
              [##00.#]
              one sign a unit: # screening, 0 1 2 sampling level, . a missed stretch, ? not told
-  draws      1 block begun, at unit 3; a station opened with seed 0x3C6EF35F draws on from there
 Every event from 1 to 4 was taken and none is missing.
 '''
 CASE_9 = '''\
@@ -130,7 +129,6 @@ Summary
              5 to 9  screening
              [????#####]
              one sign a unit: # screening, 0 1 2 sampling level, . a missed stretch, ? not told
-  draws      how many blocks were begun is not told: events were dropped
 ALARM LOST: 3 LONG were dropped, and no entry tells them: 2 among 1 to 7, event 26.
 Of events 1 to 34, 9 were dropped, of them 3 LONG, in 3 stretches, and markers say so; 25 were taken.
 '''
@@ -207,7 +205,6 @@ Summary
              39 to 44  one in 3
              [aaabbbb.baaaaaa]
              one sign a unit: a one in 3, b one in 2, . a missed stretch
-  draws      4 blocks begun, the last at unit 43; a station opened with seed 0xAAF95334 draws on from there
 Every event from 1 to 9 was taken and none is missing.
 '''
 # The same session with another answer to one frame, and what is said of it.
@@ -346,7 +343,6 @@ Summary
              6 to 7  sampling level 0
              [#####00]
              one sign a unit: # screening, 0 1 2 sampling level, . a missed stretch, ? not told
-  draws      1 block begun, at unit 6; a station opened with seed 0x9FA59627 draws on from there
 Every event from 1 to 2 was taken and none is missing.
 '''
 # What the summary says of the plan and of the station number; None where it says nothing.
@@ -401,9 +397,6 @@ UNNUMBERED = {
     'a number that is told back': ('0A C>00 0A C 0 0', 1, 'only a take tells an event', NEVER_OPENED, NUMBER_NOT_TOLD),
     'an open with neither, as before W6':
         ('08 4 1 2710 0>00 00 0 0 0, 07>00 01 1 0 5, 02 1>00 00 0 0 1', 1, NEITHER, f'{SEED_NOT_TOLD}; START tells i 5', None),
-    'an open with neither, and a block drawn from a seed that nobody knows':
-        ('08 4 1 2710 0>00 00 0 0 0, 1, 2, 3, 4, 5, 6, 02 7>00 00 0 0 0, 07>00 01 1 0 5, 07>00 02 2 5 1, 07>00 00 0 0 0', 1, NEITHER,
-         f'{SEED_NOT_TOLD}; START tells i 5', None),
     'an open with neither, and 3 before 9': ('08 4 1 26AC 0>03 00 0 0 0', 1, NEITHER, NEVER_OPENED, None),
     'a number that a refused one made forgotten':
         ('0A C>00 00 0 0 0, 0A 0>09 00 0 0 0, 08 4 1 2710 0>09 00 0 0 0, 07>02 00 0 0 0', 3,
@@ -421,185 +414,6 @@ UNNUMBERED = {
         ('0A C>00 00 0 0 0, 08 4 1 2710 0>00 00 0 0 0, 08 4 2 2710 0 0>00 00 0 0 0', 3, 'refusal 9 is due here: a second open',
          f'{ENTRY} seed 0xC, the station number', 'number 12'),
 }
-# Frame 0E at any time, written out by hand as above. From 0 the generator steps to 3C6EF35F, 47502932 and D1CCF6E9 (document 01,
-# proved case 1). It comes round after 2^32 steps, so one less leads back by one; half as many turn the highest bit.
-SKIPS = (
-    '0E 0 1>00 00 0 0 3C6EF35F, 0E 0 0>00 00 0 0 0, 0E 0>09 00 0 0 0, 0E 0 1 0>09 00 0 0 0, 0D 0 1>09 00 0 0 0, 0F 0 1>09 00 0 0 0, '
-    '01 1 2 2 3 0 0 0>00 00 0 0 0, 0E 3C6EF35F 1>00 00 0 0 47502932, 02 1>00 00 0 0 1, 0E 0 3>00 00 0 0 D1CCF6E9, 03 0>00 00 0 0 0, '
-    '2, 06>00 00 0 0 0, 0E 1 80000000>00 00 0 0 80000001, 06>00 00 0 0 0, 3, 0E D1CCF6E9 FFFFFFFF>00 00 0 0 47502932, '
-    '02 4>00 00 0 0 0, 07>00 01 1 0 2, 0E FFFFFFFF 0>00 00 0 0 FFFFFFFF, 07>00 02 2 2 1, 07>00 06 3 2 1, 07>00 00 0 0 0'
-)
-SKIPPED = '''\
-    frame  call and answer         event         number       unit  what it says
-        1  skip 1 step from 0x0: 0x3C6EF35F
-        2  skip 0 steps from 0x0: 0x0
-        3  ill-formed frame: refused 9  '0E 00000000'
-        4  ill-formed frame: refused 9  '0E 00000000 00000001 00000000'
-        5  ill-formed frame: refused 9  '0D 00000000 00000001'
-        6  ill-formed frame: refused 9  '0F 00000000 00000001'
-        7  open CSP-1 n 2 i 2 S 3 seed 0x0
-        8  skip 1 step from 0x3C6EF35F: 0x47502932
-        9  unit 1: inspect
-       10  skip 3 steps from 0x0: 0xD1CCF6E9
-       11  result: conforming
-       12  unit 2: inspect
-       13  result: conforming
-       14  tick
-       15  skip 2,147,483,648 steps from 0x1: 0x80000001
-       16  tick
-       17  unit 3: inspect
-       18  result: conforming
-       19  skip 4,294,967,295 steps from 0xD1CCF6E9: 0x47502932
-       20  unit 4: pass
-       21  take                    START              1             clearance number 2
-       22  skip 0 steps from 0xFFFFFFFF: 0xFFFFFFFF
-       23  take                    PHASE              2          2  sampling level 0
-       24  take                    SILENCE            3          2  1 tick in a row with no unit
-       25  take: nothing to tell
-
-Summary
-  plan       CSP-1 n 2 i 2 S 3 seed 0x0
-  frames     25: open 1, unit 4, result 3, tick 2, take 4, skip 7, ill-formed 4
-             4 refused: 4 with 9
-  units      4: 3 conforming, 0 defective, 1 passed, 0 missed, 0 owed a result
-  unseen     at most 1 unit in a row: 4 (passed), and the session ends there
-  events     3 told: START 1, PHASE 1, SILENCE 1
-  alarms     up to event 3: 0 LONG told, 0 raised; no alarm was lost
-  left       screening at unit 2, after 2 conforming units in a row: 1 to 2
-  phases     1 to 2  screening
-             3 to 4  sampling level 0
-             [##00]
-             one sign a unit: # screening, 0 1 2 sampling level, . a missed stretch, ? not told
-  draws      1 block begun, at unit 3; a station opened with seed 0x3C6EF35F draws on from there
-Every event from 1 to 3 was taken and none is missing.
-'''
-# Sessions in which one answer to a frame 0E is not the program's: which, and what is said of it. No other frame is blamed.
-NO_SKIP, NO_MORE = 'no skip is refused', 'an answer with no event has a value and no more'
-UNSKIPPED = {
-    'a code that is not known': ('0E 0 1>09 00 0 0 0', 1, NO_SKIP),
-    'a call before an open': ('0E 0 1>02 00 0 0 0, 01 1 2 2 3 0 0 0>00 00 0 0 0', 1, NO_SKIP),
-    'a call while a result is owed':
-        ('01 1 2 2 3 0 0 0>00 00 0 0 0, 02 1>00 00 0 0 1, 0E 0 1>04 00 0 0 0, 03 0>00 00 0 0 0, 07>00 01 1 0 2', 3, NO_SKIP),
-    'a call with no number left': ('01 1 2 2 3 0 0 0>00 00 0 0 0, 0E 0 1>0A 00 0 0 0', 2, NO_SKIP),
-    'an event': ('01 1 2 2 3 0 0 0>00 00 0 0 0, 0E 0 1>00 01 1 0 2, 07>00 01 1 0 2', 2, 'only a take tells an event'),
-    'a state that has a kind': ('0E 0 1>00 0E 0 0 3C6EF35F', 1, 'only a take tells an event'),
-    'a state that has a number': ('0E 0 1>00 00 1 0 3C6EF35F', 1, NO_MORE),
-    'a state that has a unit': ('0E 0 1>00 00 0 1 3C6EF35F', 1, NO_MORE),
-    'no step': ('0E 0 1>00 00 0 0 0', 1, 'the state after 1 step is 0x3C6EF35F'),
-    'a step too many': ('0E 0 1>00 00 0 0 47502932', 1, 'the state after 1 step is 0x3C6EF35F'),
-    'a step where none is asked for': ('0E 0 0>00 00 0 0 3C6EF35F', 1, 'the state after 0 steps is 0x0'),
-    'words the other way round': ('0E 1 0>00 00 0 0 3C6EF35F', 1, 'the state after 0 steps is 0x1'),
-    'a number of steps that is cut':
-        ('0E 0 80000001>00 00 0 0 3C6EF35F', 1, 'the state after 2,147,483,649 steps is 0xBC6EF35F'),
-    'a state that is cut': ('0E 10000 0>00 00 0 0 0', 1, 'the state after 0 steps is 0x10000'),
-    'the station\'s own state':
-        ('01 1 2 1 1 0 0 0>00 00 0 0 0, 1, 2, 0E 0 1>00 00 0 0 47502932, 07>00 01 1 0 1, 07>00 02 2 1 1, 07>00 00 0 0 0', 6,
-         'the state after 1 step is 0x3C6EF35F'),
-    'one word': ('0E 0>00 00 0 0 0', 1, 'an ill-formed frame is refused with 9'),
-}
-# Sessions of a plan that is opened with seed 0, as calls of a script: how many blocks were begun, and the first unit of the last,
-# or what is said where that is not told.
-STATES = (0, 0x3C6EF35F, 0x47502932, 0xD1CCF6E9, 0xAAF95334, 0x6252E503, 0x9F2EC686)  # of seed 0, after so many blocks
-NOT_COUNTED = 'how many blocks were begun is not told: '
-ALL = ('take_all',)
-DRAWN = {
-    'screening alone': ((model.CSP_1, 3, 5), [('units', 3), ALL], (0, 0)),
-    'screening alone, and nothing told': ((model.CSP_1, 3, 5), [('units', 1)], f'{NOT_COUNTED}more may be left to take'),
-    'screening just left': ((model.CSP_1, 3, 2), [('units', 2), ALL], (0, 0)),
-    'CSP-1': ((model.CSP_1, 3, 2), [('units', 12), ALL], (4, 12)),
-    'CSP-1, to the end of a block': ((model.CSP_1, 3, 2), [('units', 11), ALL], (3, 9)),
-    'CSP-1, a result owed': ((model.CSP_1, 3, 2), [('good', 2), ('unit',), ALL], (1, 3)),
-    'CSP-2, a watch': ((model.CSP_2, 2, 2), [('good', 2), ('bad', 1), ('units', 4), ALL], (3, 7)),
-    'CSP-2, a watch that ends': ((model.CSP_2, 2, 2), [('good', 2), ('bad', 1), ('good', 2), ('bad', 1), ('units', 2), ALL], (5, 11)),
-    'CSP-2, a second defect': ((model.CSP_2, 2, 2), [('good', 2), ('bad', 2), ('good', 2), ('units', 3), ALL], (4, 10)),
-    'CSP-F': ((model.CSP_F, 2, 2, 0, 0, 100), [('units', 8), ALL], (3, 7)),
-    'CSP-T, three levels': ((model.CSP_T, 2, 2), [('units', 21), ALL], (6, 21)),
-    'CSP-T, a defect at level 1': ((model.CSP_T, 2, 2), [('good', 4), ('bad', 1), ('good', 2), ('units', 1), ALL], (4, 12)),
-    'CSP-V, a reduced clearance number':
-        ((model.CSP_V, 2, 2, 2, 1), [('good', 4), ('bad', 1), ('good', 1), ('units', 3), ALL], (5, 12)),
-    'a jump': ((model.CSP_1, 3, 1), [('units', 3), ('unit', 9), ('result', 0), ('units', 2), ALL], (2, 10)),
-    'a jump in screening': ((model.CSP_1, 3, 2), [('units', 1), ('unit', 9), ('result', 0), ('units', 2), ALL], (1, 11)),
-    'an interrupt': ((model.CSP_1, 3, 1), [('units', 3), ('interrupt',), ('units', 3), ALL], (2, 5)),
-    'a find': ((model.CSP_1, 3, 2), [('units', 1), ('find',), ('units', 3), ALL], (1, 4)),
-    'higher at once': ((model.CSP_1, 3, 2), [('units', 4), ('change', model.CSP_1, 2, 1), ('units', 3), ALL], (3, 7)),
-    'higher at once at level 1': ((model.CSP_T, 3, 2), [('units', 8), ('change', model.CSP_T, 2, 1), ('units', 3), ALL], (5, 11)),
-    'higher at once with a watch on':
-        ((model.CSP_2, 3, 2), [('good', 2), ('bad', 1), ('change', model.CSP_2, 2, 1), ('units', 3), ALL], (3, 6)),
-    'higher, waits for sampling': ((model.CSP_1, 5, 3), [('change', model.CSP_1, 2, 1), ('units', 6), ALL], (2, 6)),
-    'lower, waits for screening':
-        ((model.CSP_1, 2, 2), [('units', 3), ('change', model.CSP_1, 5, 3), ('units', 3), ('interrupt',), ('units', 5), ALL], (3, 10)),
-    'lower at once': ((model.CSP_1, 2, 2), [('units', 1), ('change', model.CSP_1, 5, 3), ('units', 8), ALL], (2, 9)),
-    'lower on demand':
-        ((model.CSP_1, 2, 2), [('units', 3), ('change', model.CSP_1, 3, 3, 3, 0, 0, 1), ('units', 7), ALL], (3, 10)),
-    'the same frequency': ((model.CSP_1, 2, 2), [('units', 3), ('change', model.CSP_1, 2, 9), ('units', 2), ALL], (2, 5)),
-    'units that pass when all is told': ((model.CSP_1, 4, 1), [('units', 2), ALL, ('units', 2)], (1, 2)),
-    'units when not all is told': ((model.CSP_1, 4, 1), [('units', 2), ALL, ('units', 6)], f'{NOT_COUNTED}more may be left to take'),
-    'every unit told, and not every event': ((model.CSP_1, 3, 2), [('units', 3), ('bad', 1), ('take', 3)], (2, 6)),
-    'a marker that hides phases': ((model.CSP_1, 2, 2), [('units', 5), ('tick', 10), ALL], f'{NOT_COUNTED}events were dropped'),
-    'a marker before any unit': ((model.CSP_1, 2, 2), [('tick', 12), ALL, ('units', 5), ALL], f'{NOT_COUNTED}events were dropped'),
-    'a marker before any unit, and the first unit owed its result':
-        ((model.CSP_1, 2, 2), [('tick', 12), ALL, ('unit',)], f'{NOT_COUNTED}events were dropped'),
-    'a marker before any unit, and an entry that tells the phase of the first':
-        ((model.CSP_1, 2, 2), [('tick', 12), ALL, ('bad', 1), ('units', 5), ALL], (2, 6)),
-    'a marker before any unit, and entries that do not tell the phase':
-        ((model.CSP_1, 2, 2), [('tick', 12), ALL, ('change', model.CSP_1, 5, 4), ALL, ('units', 1), ('tick', 2), ALL],
-         f'{NOT_COUNTED}events were dropped'),
-    'a marker that may hide a change':
-        ((model.CSP_1, 3, 1), [('change', model.CSP_1, 5, 2), ('tick', 10), ALL, ('bad', 1), ('units', 3), ALL],
-         f'{NOT_COUNTED}the frequency in force is not told'),
-    'a marker that may hide a change, and sampling not begun':
-        ((model.CSP_1, 3, 1), [('change', model.CSP_1, 5, 2), ('tick', 10), ALL, ('bad', 1), ('units', 2), ALL], (0, 0)),
-    'a marker that hides a level, which an entry tells of a unit behind it':  # the block in hand was given up for it
-        ((model.CSP_T, 2, 1, 1, 0, 0, 8), [('good', 1), ALL, ('good', 1), ('tick', 9), ALL, ('good', 1), ALL],
-         f'{NOT_COUNTED}events were dropped'),
-}
-# The same with seeds that step to 55555555 and to 55555556: a block of three is inspected at place 0, and at place 1.
-AT_A_THIRD = {0x2635F24E: (1, 2, 0x55555555), 0x25164B13: (1, 2, 0x55555556)}
-# The same, of Table V's first entry, opened in other ways and with other seeds: so many blocks of two behind five units.
-TAKEN_FROM = {
-    'the station number': ([('station_number', 12), ('table', model.CSP_T, 1, 10_000, 0, None)], (2, 8, 0x5DF4811E)),
-    'a seed beside a station number': ([('station_number', 12), ('table', model.CSP_T, 1, 10_000, 0, 0)], (2, 8, 0x47502932)),
-    'the last seed': ([('table', model.CSP_T, 1, 10_000, 0, 2 ** 32 - 1)], (2, 8, 0x3017CC89)),
-}
-# Sessions of seed 0, or as it is written, whose orders another station would give, or none: which frame shows it, what is said
-# of it, and which order cannot be. Every other answer is a station's, and no other frame is blamed.
-MISORDERED = {
-    'another place': ('01 1 2 1 1 0 0 0>00 00 0 0 0, 1, 02 2>00 00 0 0 0, 3, 07>00 01 1 0 1, 07>00 02 2 1 1, 07>00 00 0 0 0', 9,
-                      'of units 2 to 3 the seed chooses unit 2, and it passed', 2),
-    'two of a block': ('01 1 2 1 1 0 0 0>00 00 0 0 0, 1, 2, 3, 07>00 01 1 0 1, 07>00 02 2 1 1, 07>00 00 0 0 0', 10,
-                       'of units 2 to 3 the seed chooses unit 2, and unit 3 was ordered inspected', 3),
-    'none of a block': ('01 1 2 1 1 0 0 D1CCF6E9>00 00 0 0 0, 1, 02 2>00 00 0 0 0, 02 3>00 00 0 0 0, 07>00 01 1 0 1, 07>00 02 2 1 1, '
-                        '07>00 00 0 0 0', 8, 'of units 2 to 3 the seed chooses unit 3, and it passed', 3),
-    'a place of a block that is cut off':
-        ('01 1 3 1 1 0 0 0>00 00 0 0 0, 1, 02 2>00 00 0 0 0, 02 9>00 00 0 0 1, 07>00 01 1 0 1, 07>00 02 2 1 1, 07>00 05 3 3 6', 8,
-         'of units 2 to 4 the seed chooses unit 2, and it passed', 2),
-    'a unit that passes in screening':
-        ('01 1 2 3 3 0 0 0>00 00 0 0 0, 1, 02 2>00 00 0 0 0, 07>00 01 1 0 3, 07>00 00 0 0 0', 6,
-         'unit 2 passed, and in screening every unit is inspected', 2),
-    'a unit that passes behind a jump':
-        ('01 1 2 1 1 0 0 0>00 00 0 0 0, 1, 02 3>00 00 0 0 0, 07>00 01 1 0 1, 07>00 02 2 1 1, 07>00 05 3 2 1, 07>00 02 4 3 0', 8,
-         'unit 3 passed, and in screening every unit is inspected', 3),
-    'an order when all is told':
-        ('01 1 2 1 1 0 0 0>00 00 0 0 0, 1, 07>00 01 1 0 1, 07>00 02 2 1 1, 07>00 00 0 0 0, 02 2>00 00 0 0 0, 02 3>00 00 0 0 1', 7,
-         'of units 2 to 3 the seed chooses unit 2, and it passed', 2),
-    'a block that begins with a watch':
-        ('01 2 2 1 1 0 0 0>00 00 0 0 0, 1, 02 2>00 00 0 0 1, 03 1>00 00 0 0 0, 3, 07>00 01 1 0 1, 07>00 02 2 1 1, 07>00 04 3 2 1, '
-         '07>00 00 0 0 0', 11, 'of units 2 to 3 the seed chooses unit 2, and unit 3 was ordered inspected', 3),
-    'a block that goes on over an interrupt':  # it has passed one unit of two
-        ('01 1 2 1 1 0 0 47502932>00 00 0 0 0, 1, 02 2>00 00 0 0 0, 04>00 00 0 0 0, 3, 4, 02 5>00 00 0 0 0, 07>00 01 1 0 1, '
-         '07>00 02 2 1 1, 07>00 08 3 2 0, 07>00 02 4 2 0, 07>00 02 5 3 1, 07>00 00 0 0 0', 16,
-         'of units 4 to 5 the seed chooses unit 5, and unit 4 was ordered inspected', 4),
-    'a generator that begins again with sampling':  # its first place is 0, and the next is 1
-        ('01 1 2 1 1 0 0 3C6EF35F>00 00 0 0 0, 1, 2, 02 3>00 00 0 0 0, 04>00 00 0 0 0, 4, 5, 02 6>00 00 0 0 0, 07>00 01 1 0 1, '
-         '07>00 02 2 1 1, 07>00 08 3 3 0, 07>00 02 4 3 0, 07>00 02 5 4 1, 07>00 00 0 0 0', 18,
-         'of units 5 to 6 the seed chooses unit 6, and unit 5 was ordered inspected', 5),
-    'a generator that a frame 0E moves':
-        ('01 1 2 1 1 0 0 0>00 00 0 0 0, 1, 0E 0 2>00 00 0 0 47502932, 02 2>00 00 0 0 0, 3, 07>00 01 1 0 1, 07>00 02 2 1 1, '
-         '07>00 00 0 0 0', 10, 'of units 2 to 3 the seed chooses unit 2, and it passed', 2),
-    'a seed of 0 for the station number':  # from 1,000 the first place is 1, and from 0 it is 0
-        ('0A 3E8>00 00 0 0 0, 08 4 1 2710 0>00 00 0 0 0, 1, 2, 3, 4, 5, 6, 02 7>00 00 0 0 0, 07>00 01 1 0 5, 07>00 02 2 5 1, '
-         '07>00 00 0 0 0', 18, 'of units 6 to 7 the seed chooses unit 7, and unit 6 was ordered inspected', 6),
-}
 # Short random sessions about the open: how many, the station numbers and the seeds in them, and what they must reach.
 OPENS = 300
 OPEN_NUMBERS = (0, 1, 12, 13, 1_000, 65_535, 65_536, 65_548, 2 ** 31, 2 ** 32 - 1)
@@ -607,20 +421,12 @@ OPEN_SEEDS = (0, 12, 2 ** 32 - 1)
 OPEN_GOALS = (
     'seed: the station number', 'seed: the last of several', 'seed: its own, with a number', 'seed: its own, and no number', 'no open',
     'refused: 9 for neither', 'refused: 9 after an open', 'refused: 3 with a number', 'wrong and caught', 'wrong, and nothing tells',
-    'skip before an open', 'skip after an open',
 )
-# The states and the numbers of steps in random frames 0E.
-EDGES = (0, 1, 2, 0xFFFF, 0x10000, 2 ** 31 - 1, 2 ** 31, 2 ** 32 - 2, 2 ** 32 - 1)
 # What is said of accepted changes in random sessions, each once or more: whether n is the new one before and after the call.
 SAID_OF_CHANGES = {
     'nothing changes': (True, True), 'at once': (False, True), 'fresh screening sequence': (False, True),
     'waits for the shift to sampling': (False, False), 'waits for the return to screening': (False, False),
 }
-# What is said of draws in random sessions, each once or more: how many blocks were begun, or why that is not told.
-SAID_OF_DRAWS = (
-    'some', 'none', 'events were dropped', 'more may be left to take', 'another seed with the same orders',
-    'another seed with other orders',
-)
 # Weights of the calls as in `drive`: so many takes that the phase is known, and changes to say something of.
 TAKEN_AT_ONCE = (40, 1, 1, 1, 1, 2, 60, 12, 1, 1)
 # A row that a stored session must have.
@@ -637,9 +443,6 @@ ROWS = {
     'table-v-with-station-number': '  plan       CSP-T letter G AQL 2.5 seed 0x1234, the station number; START tells i 49',
     'table-iii-a-4-with-station-number': '        2  open CSP-F letter A AQL 0.04 N 500 seed 0xC, the station number',
     'station-number-neighbour-11': '  station    number 11',
-    'skip-draws-on': '  draws      12 blocks begun, the last at unit 58; a station opened with seed 0x663D1A9D draws on from there',
-    'skip-takes-up-the-draws': '  draws      8 blocks begun, the last at unit 38; a station opened with seed 0x663D1A9D draws on from there',
-    'skip-edges': 'skip 4,294,967,295 steps from 0x',
     'station-number-neighbour-12': '  station    number 12',
     'station-number-replaced': '  station    number 5, the last of 6 given',
     'station-number-and-seed-0': '  station    number 40,000; the open has a seed of its own',
@@ -677,8 +480,6 @@ def check(report, pair, options):
     verdicts(report)
     changes(report)
     numbers(report)
-    skips(report)
-    draws(report)
     random_opens(report, options)
     alarms(report)
     heard = random_sessions(report, options)
@@ -688,8 +489,7 @@ def check(report, pair, options):
         os.chmod(folder, 0o755)
         ways = in_scratch(report, Path(folder))
     return (f'every stored session, {len(VERDICTS) + len(DROPPED)} verdicts, {len(WRONG)} wrong answers to changes of plan, '
-            f'{len(UNNUMBERED)} to station numbers and opens, {len(UNSKIPPED)} to frames 0E, {len(MISORDERED)} wrong orders, '
-            f'{len(FORGED)} wrong markers, {len(DRAWN)} sessions whose blocks are counted, {OPENS} random sessions about the open and '
+            f'{len(UNNUMBERED)} to station numbers and opens, {len(FORGED)} wrong markers, {OPENS} random sessions about the open and '
             f'{heard:,} others against the model, '
             f'{ways} checks of how the commands are called and how they fail')
 
@@ -835,29 +635,15 @@ def seeds(report):
 
 def wrong_numbers(report):
     for name, (turns, frame, why, *due) in UNNUMBERED.items():
-        said = answer_blamed(report, name, turns, frame, why)
+        frames, answers = by_hand(turns)
+        session, said = heard_of(frames, answers)
+        note, bad = said.splitlines()[frame], session.journal.impossible
+        noted = note.lstrip().startswith('!') and note.endswith(f': {why}') and bad == [frame]
+        report.check(noted, f'bin/session on {name} says: {note}, and frames {bad} cannot be')
         shown = [part(said, 'plan'), part(said, 'station')]
         report.check(shown == due, f'bin/session after {name} says: {shown}')
-
-
-def blamed(report, name, turns, frame, why):
-    """Of a session written by hand one frame alone is blamed, and for this. What is said of the session."""
-    session, said = heard_of(*by_hand(turns))
-    note, bad = said.splitlines()[frame], session.journal.impossible
-    noted = note.lstrip().startswith('!') and note.endswith(f': {why}') and bad == [frame]
-    report.check(noted, f'bin/session on {name} says: {note}, and frames {bad} cannot be')
-    return said
-
-
-def answer_blamed(report, name, turns, frame, why):
-    """The same where the answer to that frame is not the model's: behind it no block is counted."""
-    said = blamed(report, name, turns, frame, why)
-    frames, answers = by_hand(turns)
-    right = model.run(frames).split(b'\n')[frame - 1]
-    report.check(right != answers.split(b'\n')[frame - 1], f'the model gives this answer too: {name}')
-    due = f'{NOT_COUNTED}the journal is not sound' if b'\n02 ' in frames else None
-    report.check(part(said, 'draws') == due, f'bin/session says of draws after {name}: {part(said, "draws")}')
-    return said
+        right = model.run(frames).split(b'\n')[frame - 1]
+        report.check(right != answers.split(b'\n')[frame - 1], f'the model gives this answer too: {name}')
 
 
 class Opens(Script):
@@ -875,7 +661,6 @@ class Opens(Script):
         return words(*choice((
             (model.STATION_NUMBER, choice(OPEN_NUMBERS)), (model.STATION_NUMBER, choice(OPEN_NUMBERS)), entry, entry,
             (*entry, choice(OPEN_SEEDS)), (1, model.CSP_1, choice((1, 2)), 2, 3, 0, 0, choice(OPEN_SEEDS)), (7,),
-            (14, choice(EDGES), choice(EDGES)),
         )))
 
 
@@ -887,7 +672,6 @@ def random_opens(report, options):
         report.check(session.journal.sound(), f'bin/session calls session {at} about the open impossible:\n{said}')
         reached.update(seeds_said(report, f'session {at} about the open', script, said))
         reached.update(open_refused(script))
-        reached.update(skips_said(report, f'session {at} about the open', script, said))
         reached.update([another_refusal(report, at, script)])
     report.reached(reached, OPEN_GOALS)
 
@@ -944,73 +728,6 @@ def another_refusal(report, at, script):
     good = min(bad, default=0) != place + 1 if untold else min(bad, default=0) == place + 1
     report.check(good, f'session {at} about the open, with {other} for {was} in frame {place + 1}: frames {bad} cannot be')
     return 'wrong, and nothing tells' if untold else 'wrong and caught'
-
-
-# ---- Skipped draws
-
-def skips(report):
-    frames, answers = by_hand(SKIPS)
-    said = heard_of(frames, answers)[1]
-    report.check(in_full(said) == SKIPPED, f'bin/session on frames 0E says:\n{said}')
-    report.check(model.run(frames) == answers, f'the model does not give these answers: {SKIPS}')
-    for name, (turns, frame, why) in UNSKIPPED.items():
-        answer_blamed(report, name, turns, frame, why)
-
-
-def skips_said(report, name, script, said):
-    """The row of each frame 0E has the model's state. Whether they came before an open or after it."""
-    rows, opened, wrong, reached = said.splitlines(), False, [], []
-    for at, (line, answer) in enumerate(zip(script.lines, script.answers)):
-        opened = opened or (line[:2] in (b'01', b'08') and not answer[0])
-        if line[:2] == b'0E' and not answer[0]:
-            state, m = (int(word, 16) for word in line.split()[1:])
-            due = f'{at + 1:>9,}  skip {m:,} step{"" if m == 1 else "s"} from 0x{state:X}: 0x{answer[4]:X}'
-            wrong += [rows[at]] if rows[at] != due else []
-            reached.append(f'skip {"after" if opened else "before"} an open')
-    report.check(not wrong, f'{name} says of frames 0E: {wrong[:2]}')
-    return reached
-
-
-# ---- Draws
-
-def draws(report):
-    steps = all(model.step(before) == after for before, after in zip(STATES, STATES[1:]))
-    report.check(steps, 'the states from seed 0 on are not those of the model')
-    for name, (plan, calls_made, due) in DRAWN.items():
-        drawn(report, name, [('open', *plan), *calls_made], due)
-    for seed, due in AT_A_THIRD.items():
-        drawn(report, f'seed {seed:X}', [('open', model.CSP_1, 3, 1, 1, 0, 0, seed), ('units', 4), ALL], due)
-    for name, (opening, due) in TAKEN_FROM.items():
-        drawn(report, name, [*opening, ('units', 8), ALL], due)
-    misordered(report)
-
-
-def drawn(report, name, calls_made, due):
-    script = Script()
-    for call, *arguments in calls_made:
-        getattr(script, call)(*arguments)
-    session, said = heard_of(script.text(), script.expected())
-    told = part(said, 'draws')
-    due = due if isinstance(due, str) else draws_due(*due)
-    report.check(session.journal.sound() and told == due, f'bin/session says of draws, {name}: {told}\n{said}')
-
-
-def draws_due(blocks, unit, state=None):
-    """What is said of so many blocks begun, the last with this unit; from seed 0 on where no state is given."""
-    which = 'block begun, at' if blocks == 1 else 'blocks begun, the last at'
-    station = f'a station opened with seed 0x{STATES[blocks] if state is None else state:X}'
-    if not blocks:
-        return f'no block was begun: {station} draws as this one would'
-    return f'{blocks:,} {which} unit {unit:,}; {station} draws on from there'
-
-
-def misordered(report):
-    for name, (turns, frame, why, unit) in MISORDERED.items():
-        said = blamed(report, name, turns, frame, why)
-        due = f'{NOT_COUNTED}the order of unit {unit} cannot be'
-        report.check(part(said, 'draws') == due, f'bin/session says of draws, {name}: {part(said, "draws")}')
-        frames, answers = by_hand(turns)
-        report.check(model.run(frames) != answers, f'the model gives these answers too: {name}')
 
 
 def in_full(said):
@@ -1098,29 +815,17 @@ def with_a_marker(type, calls_made):
 # ---- Random sessions
 
 class Witness(check_journal.Witness):
-    """A random session that writes down the phase that each unit was handled in, and n before and after each call.
-
-    It counts the steps of the model's generator, and has frames 0E in it.
-    """
+    """A random session that writes down the phase that each unit was handled in, and n before and after each call."""
 
     def __init__(self, seed):
         super().__init__(seed)
         self.handled = {}
         self.around = []
-        self.steps = self.stepped_at = 0
-
-    def turn(self):
-        if self.chance(0.03):
-            self.skip(*(self.random.choice((*EDGES, self.random.getrandbits(32))) for _ in ('state', 'm')))
-        else:
-            super().turn()
 
     def line(self, text):
-        last, n, s = (self.station.last, self.station.n, self.station.s) if self.station else (0, 0, None)
+        last, n = (self.station.last, self.station.n) if self.station else (0, 0)
         answer = super().line(text)
         self.around.append((n, self.station.n if self.station else 0))
-        if s is not None and self.station.s != s:  # no state is its own next one
-            self.steps, self.stepped_at = self.steps + 1, self.station.last
         if self.station and self.station.last > last:
             level = 1 + self.station.level if self.station.phase else 0
             self.handled.update({unit: phases.NOT_SEEN for unit in range(last + 1, self.station.last)})
@@ -1136,7 +841,7 @@ def random_sessions(report, options):
     """The tallies are the model's, a phase that is told is right, and a session that was taken to its end tells all."""
     count = max(20, options.count // 15)
     told = caught = lost = 0
-    said_of_changes, said_of_draws = Counter(), Counter()
+    said_of_changes = Counter()
     for at in range(count):
         witness = (Alarming if at % 4 == 2 else Witness)(f'{options.seed}-session-{at}')
         witness.near_the_limit = lambda: None  # a million missed units make a slow witness
@@ -1150,9 +855,6 @@ def random_sessions(report, options):
         seeds_said(report, f'random session {at}', witness, said)
         caught += one_wrong_answer(report, at, witness, text)
         said_of_changes.update(changes_said(report, at, witness, text, said))
-        said_of_draws.update(draws_said(report, at, witness, session, said))
-        skips_said(report, f'random session {at}', witness, said)
-        one_wrong_state(report, at, witness)
         waiting = session.waiting()
         waits = waiting is None or waiting == calls.plan(*model.waiting_plan(witness.station))
         report.check(waits, f'random session {at} has the wrong plan waiting: {waiting}')
@@ -1161,9 +863,6 @@ def random_sessions(report, options):
     report.reached(said_of_changes, SAID_OF_CHANGES)
     report.check(told > 0, 'no random session told every phase')
     report.check(lost > 0, 'no random session lost an alarm')
-    report.reached(said_of_draws, SAID_OF_DRAWS)
-    counted = said_of_draws['some']
-    report.check(counted * 5 > count, f'of {count} random sessions {counted} say how many blocks were begun, one or more')
     report.check(caught > count * 2 // 3, f'of {count} sessions with one wrong answer {caught} are caught')
     return count
 
@@ -1178,52 +877,6 @@ def changes_said(report, at, witness, text, said):
             good = ending is None or SAID_OF_CHANGES[ending] == is_new
             report.check(good, f'random session {at} says of a change: {rows[frame]}, and n is {witness.around[frame]}')
             yield ending
-
-
-def draws_said(report, at, witness, session, said):
-    """Where blocks are counted, they are as many as the model has drawn; where not, it is said why. What is shown by it."""
-    line, name = part(said, 'draws'), f'random session {at}'
-    whole = said.splitlines()[-1].startswith('Every event from 1')
-    if not witness.station.last:
-        report.check(line is None, f'{name} says of draws with no unit: {line}')
-    elif line.startswith(NOT_COUNTED):
-        why = line[len(NOT_COUNTED):]
-        good = {'events were dropped': session.gaps, 'more may be left to take': not whole,
-                'the frequency in force is not told': session.gaps and session.journal.asked}.get(why)
-        report.check(good and not whole, f'{name} has every event told: {whole}, and says of draws: {line}')
-        yield why
-    else:
-        due = draws_due(witness.steps, witness.stepped_at, witness.station.s)
-        report.check(line == due, f'{name} says of draws: {line}, and {due} is due')
-        yield 'some' if witness.steps else 'none'
-        yield another_seed(report, at, witness)
-
-
-def another_seed(report, at, witness):
-    """The same answers to a session that opens with another seed: one order is wrong, unless the model gives them all too."""
-    place = next(place for place, (line, answer) in enumerate(zip(witness.lines, witness.answers))
-                 if line[:2] in (b'01', b'08') and answer == model.DONE)
-    opening, (seed, left_off) = witness.lines[place], seed_taken(witness)
-    other = b'%08X' % witness.random.choice((seed ^ 1, witness.random.getrandbits(32)))
-    lines = [*witness.lines[:place], (opening + b' ' if left_off else opening[:-8]) + other, *witness.lines[place + 1:]]
-    text = b''.join(line + b'\n' for line in lines)
-    possible = model.run(text) == witness.expected()
-    session, said = heard_of(text, witness.expected())
-    blames = len(session.journal.impossible) == (0 if possible else 1) and session.journal.sound() == possible
-    report.check(blames, f'random session {at} with seed {other} is {"" if possible else "not "}possible, and it says:\n{said[-600:]}')
-    return 'another seed with the same orders' if possible else 'another seed with other orders'
-
-
-def one_wrong_state(report, at, witness):
-    """A frame 0E with one bit of its answer turned is called wrong, and nothing else is."""
-    places = [place for place, line in enumerate(witness.lines) if line[:2] == b'0E' and not witness.answers[place][0]]
-    if places:
-        place, word = witness.random.choice(places), witness.random.randrange(5)
-        answers, answer = list(witness.answers), list(witness.answers[place])
-        answer[word] ^= 1 << witness.random.randrange(8 if word < 2 else 32)
-        answers[place] = tuple(answer)
-        bad = heard_of(witness.text(), b''.join(map(model.written, answers)))[0].journal.impossible
-        report.check(bad == [place + 1], f'random session {at} with {answer} for frame {place + 1}: frames {bad} cannot be')
 
 
 def alarms_said(report, at, witness, session, said):
@@ -1290,7 +943,6 @@ def by_recorder(report):
     expect(report, 'standard input', command('session', '--events', '-', input=text), 0, events)
     expect(report, 'changes of plan', command('session', '-', input=changing().text()), 0, CHANGED)
     expect(report, 'station numbers', command('session', '-', input=by_hand(NUMBERS)[0]), 0, NUMBERED)
-    expect(report, 'frames 0E', command('session', '-', input=by_hand(SKIPS)[0]), 0, SKIPPED)
     expect(report, 'lost alarms', command('session', '--events', '-', input=check_journal.losing().text()), 0, LOST)
 
 
@@ -1510,7 +1162,6 @@ def wrong_answers(report, scratch):
     """A recorder whose answers are not those of a station; each is the stored session with one line changed."""
     for name, change, said in (
         ('an order to a result', '3s/0$/1/', 'only a unit is given an order'),
-        ('an order that is neither', '2s/1$/2/', 'an order is 0 or 1'),
         ('an event to a unit', '2s/^00 00/00 06/', 'only a take tells an event'),
         ('a refusal that a take never gets', '14s/^00/04/', 'no take is refused with 4'),
         ('a second START', '11s/.*/00 01 00000002 00000000 00000002/', 'a second START'),

@@ -6,7 +6,7 @@ from model import (
     CSP_2, CSP_F, CSP_T, CSP_V, LONG, MOST_STATIONS, PROGRAM_ROOM, SAMPLING, SCREENING, TABLE_V_AQL, UNIT_LIMIT, refused, sound,
     written,
 )
-from reached import EDGES_OF_M, EDGES_OF_STATE, NO_FRAMES, Watcher, waits
+from reached import Watcher, waits
 from script import Script, words
 
 # How often each call comes when no result is owed. A line of work is mostly units; each profile leans one way.
@@ -85,7 +85,7 @@ class Driver(Script):
     def prelude(self):
         """Some sessions try calls and refused opens before they open, or a table open that is one with a station number."""
         turns = (
-            self.ill_formed, self.early_call, self.refused_open, self.refused_table, self.number_somehow, self.skip_somehow,
+            self.ill_formed, self.early_call, self.refused_open, self.refused_table, self.number_somehow,
             lambda: self.table(*self.entry(), seed=None),
         )
         while self.station is None and self.chance(0.3):
@@ -94,8 +94,6 @@ class Driver(Script):
     def turn(self):
         if self.chance(0.02):
             self.bad_share = self.random.choice((0.0, 0.0, 0.05, 0.3, 0.8))
-        if self.chance(0.02):
-            self.skip_somehow()
         if self.station.owed and self.chance(0.9):
             self.result(1 if self.chance(max(self.bad_share, self.luck())) else 0)
         elif self.recallable() and self.chance(0.2):
@@ -197,7 +195,7 @@ class Driver(Script):
         """A station number, and what leaves it or takes its place."""
         self.number_somehow()
         while self.chance(0.6):
-            self.random.choice((self.number_somehow, self.refused_open, self.refused_table, self.skip_somehow))()
+            self.random.choice((self.number_somehow, self.refused_open, self.refused_table))()
 
     def too_late(self):
         """What has its place before an accepted open."""
@@ -223,38 +221,6 @@ class Driver(Script):
     def early_call(self):
         change = words(9, 1, 2, 1, 1, 0, 0, 1)
         self.line(self.random.choice((words(2, 1), words(3, 0), words(3, 2), words(4), words(5), words(6), words(7), change)))
-
-    # ---- Skips, at any time
-
-    def skip_somehow(self):
-        ways = [self.skip_once, self.skip_once, self.skip_twice, self.no_skip]
-        self.random.choice([*ways, self.skip_to_the_generator] if self.station else ways)()
-
-    def near(self, edges):
-        return self.random.choice(list(edges)) if self.chance(0.5) else self.random.getrandbits(32)
-
-    def skip_once(self):
-        self.skip(self.near(EDGES_OF_STATE), self.near(EDGES_OF_M))
-
-    def skip_twice(self):
-        """By a, by b from there, and by a + b at once: a sum that fits 32 bits, the largest too."""
-        state, both = self.near(EDGES_OF_STATE), self.near(EDGES_OF_M)
-        a = self.random.randrange(both + 1)
-        between = self.skip(state, a)[4]
-        self.skip(between, both - a)
-        self.skip(state, both)
-
-    def skip_to_the_generator(self):
-        """A block is one step, and nothing else is: so a replaced controller would ask."""
-        heard = self.watcher.skips
-        answer = self.skip(heard.seed, heard.blocks)
-        self.hold(answer[4] == self.station.s, 'the generator does not stand where as many steps as blocks begun lead')
-
-    def no_skip(self):
-        """Another number of words, or another code."""
-        two = self.near(EDGES_OF_STATE), self.near(EDGES_OF_M)
-        other = [words(code, *given) for code in NO_FRAMES for given in ((), two)]
-        self.line(self.random.choice((words(14), words(14, *two[:1]), words(14, *two, 0), *other)))
 
     # ---- Calls on an open station
 
@@ -332,8 +298,7 @@ class Driver(Script):
     def ill_formed(self):
         """A good line with one thing wrong in it, or a line of bytes."""
         plan, table, change = words(1, 1, 2, 3, 4, 0, 0, 0xABCDEF), words(8, 4, 1, 400, 0), words(9, 1, 2, 3, 4, 0, 0, 1)
-        skip = words(14, 0xA1, 0xF)
-        good = self.random.choice((plan, table, change, skip, words(2, 0xA1), words(3, 0xF), words(7), words(10, 0xA1)))
+        good = self.random.choice((plan, table, change, words(2, 0xA1), words(3, 0xF), words(7), words(10, 0xA1)))
         at = self.random.randrange(len(good) + 1)
         self.line(self.random.choice((
             good.lower() + b'a',

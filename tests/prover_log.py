@@ -56,14 +56,9 @@ def refusal_of_function(log, crate, function):
     if verdict.group(1).startswith('proved'):
         return 'it is proved'
     found = errors(log)
-    own = [error for error in found if error.place.split(':')[0] in proofs_of(function)]
+    proof = f'proofs/{function.replace("::", "/")}/Proof.antt'
+    own = [error for error in found if error.place.split(':')[0] == proof]
     return unread(found) or first_fact(own, SEARCHED in verdict.group(1))
-
-
-def proofs_of(function):
-    """Where a function's proof may stand: if it calls itself, in a folder with a plus before its name."""
-    *modules, name = function.split('::')
-    return ['/'.join(('proofs', *modules, folder, 'Proof.antt')) for folder in (name, f'+{name}')]
 
 
 def refusal_of_definition(log, file, declaration):

@@ -6,7 +6,7 @@ from operator import attrgetter
 
 from model import (
     CHANGE, CHECK, CSP_2, CSP_F, CSP_T, CSP_V, DEFECT, FRAME, INTERRUPT, LONG, MARKER, MISSED, MOST_STATIONS, NO_PLAN, OPEN, PHASE,
-    PLAN, SAMPLING, SCREENING, SILENCE, SKIP, START, STATION_NUMBER, TABLE_OPEN, UNIT_LIMIT, WAITING_FIELDS, WORD, block_length,
+    PLAN, SAMPLING, SCREENING, SILENCE, START, STATION_NUMBER, TABLE_OPEN, UNIT_LIMIT, WAITING_FIELDS, WORD, block_length,
     plan_in_range, read_frame, slot, step, table_plan, waiting_plan,
 )
 
@@ -100,7 +100,7 @@ LOST = (
 TABLES = {CSP_T: 'Table V', CSP_F: 'Table III-A-4'}
 OUT_OF_RANGE = {0: '0', MOST_STATIONS + 1: '65,536', WORD - 1: 'FFFFFFFF'}
 LOW_BITS = 'in range in its low bits'
-LEFT_BY = ('a refused number', 'an ill-formed 0A', 'a refused 01', 'a refused 08', 'a number before it', 'a skip')
+LEFT_BY = ('a refused number', 'an ill-formed 0A', 'a refused 01', 'a refused 08', 'a number before it')
 BEFORE_OPEN = {OPEN: '01', TABLE_OPEN: '08', STATION_NUMBER: '0A'}
 STATION_NUMBERS = (
     'station number 1', 'station number 65,535', 'station number replaced', 'the same station number again',
@@ -115,27 +115,6 @@ STATION_NUMBERS = (
     *(f'no seed after an open, {who} station number' for who in ('a', 'no')),
     'block drawn from the station number', 'place that seed 0 would not choose',
     *(f'{", ".join(order)}: 08 {seed}' for order in permutations(BEFORE_OPEN.values()) for seed in ('with seed', 'without seed')),
-)
-
-# W7. A skip is taken at any time, and every other frame right after one. Three in a row show the law: by a, by b from there, and by
-# a + b. The codes about 0E are no frames; with its two words they look most like it, and with none like a call.
-EDGES_OF_M = {
-    0: '0', 1: '1', 2: '2', 3: '3', 2 ** 16: '2^16', 2 ** 31 - 1: '2^31 - 1', 2 ** 31: '2^31', WORD - 2: '2^32 - 2', WORD - 1: '2^32 - 1',
-}
-EDGES_OF_STATE = {0: '0', 1: '1', 2 ** 31: '2^31', WORD - 1: '2^32 - 1'}
-NO_FRAMES = (0x0B, 0x0C, 0x0D, 0x0F, 0x10)
-NO_FRAMES_WITH = {0: 'no word', 2: 'two words'}
-SKIPS = (
-    *(f'skip by {m}' for m in EDGES_OF_M.values()), *(f'skip from {state}' for state in EDGES_OF_STATE.values()),
-    *(f'skip before an open, {who} station number' for who in ('a', 'no')),
-    *(f'skip {when} {phase}' for when in ('in', 'while owed in') for phase in PHASES.values()),
-    'skip before the first unit', 'skip in a silence', 'skip with a unit heard', 'skip within a block', 'skip between blocks',
-    'skip at level 1', 'skip at level 2', 'skip, a watch on', 'skip, a plan waiting', 'skip, a gap untold', 'skip, the queue full',
-    *(f'frame {code:02X} taken right after a skip' for code in range(1, 11)), 'block drawn right after a skip',
-    'skip from where the last one ended', 'skip by the sum of the last two', 'skip by a sum of 2^32 - 1',
-    'skip to where the generator stands',
-    *(f'skip with {count} words' for count in (0, 1, 3)), 'skip otherwise ill-formed',
-    *(f'{code:02X} with {count}' for code in NO_FRAMES for count in NO_FRAMES_WITH.values()),
 )
 
 # What a run must reach at least once. Refusal 1 needs another memory and 10 eight million events: neither is a
@@ -175,7 +154,7 @@ GOALS = (
     'jump to the new i after i good samples', 'interrupt to the new i after i good samples',
     *(f'not taken up: {turn}' for turn in NO_PLACES),
     'three events in one call', 'three drops in one call',
-    *LOST, *STATION_NUMBERS, *SKIPS,
+    *LOST, *STATION_NUMBERS,
 )
 
 
@@ -295,8 +274,6 @@ class Numbers:
 
     def hear(self, frame, refusal):
         code, words = frame
-        if code == SKIP:
-            self.left_by.add('a skip')
         if code not in BEFORE_OPEN:
             return
         calls = {OPEN: self.open, TABLE_OPEN: self.table_open, STATION_NUMBER: self.station_number}
@@ -370,63 +347,6 @@ class Numbers:
             yield 'place that seed 0 would not choose'
 
 
-class Skips:
-    """The frames 0E of a session, and how many blocks its station has begun."""
-
-    def __init__(self):
-        self.seed = None  # of the accepted open
-        self.blocks = 0
-        self.row = []     # state, m and answer of those that came one after the other, the last of them just now
-
-    def hear(self, frame, before, answer, station, number):
-        code, words = frame
-        if code == SKIP:
-            yield from self.skipped(*words)
-            yield from self.while_open(before) if before else [f'skip before an open, {"a" if number else "no"} station number']
-            self.row.append((*words, answer[4]))
-            return
-        if not answer[0]:
-            yield from self.taken(code, words, before, station)
-        self.row = []
-
-    def taken(self, code, words, before, station):
-        if before is None and station:
-            self.seed = station.s
-        drawn = code == 2 and before.phase == SAMPLING and before.place == 0 and words[0] == before.last + 1
-        self.blocks += drawn
-        if self.row:
-            yield from (f'frame {code:02X} taken right after a skip', *['block drawn right after a skip'] * drawn)
-
-    def ill_formed(self, text):
-        code, count = text[:2], text.count(b' ')
-        if code == b'%02X' % SKIP:
-            yield f'skip with {count} words' if FRAME.fullmatch(text) else 'skip otherwise ill-formed'
-        elif FRAME.fullmatch(text) and count in NO_FRAMES_WITH:
-            yield f'{code.decode()} with {NO_FRAMES_WITH[count]}'
-        self.row = []
-
-    def skipped(self, state, m):
-        yield from (f'skip by {EDGES_OF_M.get(m, "any m")}', f'skip from {EDGES_OF_STATE.get(state, "any state")}')
-        if self.row and state == self.row[-1][2]:
-            yield 'skip from where the last one ended'
-        if self.blocks and (state, m) == (self.seed, self.blocks):
-            yield 'skip to where the generator stands'
-        if len(self.row) >= 2:
-            (first, a, between), (second, b, _) = self.row[-2:]
-            if (first, between, a + b) == (state, second, m):
-                yield from ('skip by the sum of the last two', *['skip by a sum of 2^32 - 1'] * (m == WORD - 1))
-
-    def while_open(self, st):
-        yield f'skip {"while owed in" if st.owed else "in"} {PHASES[st.phase]}'
-        where = {
-            ' before the first unit': st.last == 0, ' in a silence': st.silent and not st.heard, ' with a unit heard': st.heard,
-            ' within a block': st.place, ' between blocks': st.phase == SAMPLING and st.place == 0, f' at level {st.level}': st.level,
-            ', a watch on': st.watch, ', a plan waiting': waits(st), ', a gap untold': st.told < st.oldest,
-            ', the queue full': st.next - st.oldest == st.C,
-        }
-        yield from (f'skip{place}' for place, here in where.items() if here)
-
-
 class Watcher:
     """Looks at the record before and after each frame."""
 
@@ -437,7 +357,6 @@ class Watcher:
         self.finds = Finds()
         self.raised = Raised()
         self.numbers = Numbers()
-        self.skips = Skips()
         self.calls = {
             OPEN: self.opened, 2: self.unit, 3: self.result, 4: self.interrupt, 5: self.find, 6: self.tick, 7: self.take,
             TABLE_OPEN: self.opened, CHANGE: self.changed,
@@ -457,18 +376,17 @@ class Watcher:
         if frame is None:
             self.ill_formed(text)
             return
-        self.reach(*self.skips.hear(frame, before, answer, station, self.numbers.number))
         self.reach(*self.numbers.hear(frame, refusal))
         if refusal:
             self.refused(frame, before, refusal)
-        elif frame[0] in self.calls:
+        elif frame[0] != STATION_NUMBER:
             self.raised.hear(station, queue)
             self.calls[frame[0]](frame, before, answer, self.view(station))
             if before:
                 self.drops(before, self.view(station))
 
     def ill_formed(self, text):
-        self.reach('ill-formed frame', *self.numbers.ill_formed(text), *self.skips.ill_formed(text))
+        self.reach('ill-formed frame', *self.numbers.ill_formed(text))
         if text.startswith(b'%02X' % CHANGE) and read_frame(text[:-8] + b'%08X' % 0):
             self.reach('demand neither 0 nor 1')
 

@@ -49,9 +49,6 @@ class Script:
     def station_number(self, number):
         return self.line(words(10, number))
 
-    def skip(self, state, m):
-        return self.line(words(14, state, m))
-
     def unit(self, k=None):
         return self.line(words(2, self.station.last + 1 if k is None else k))
 

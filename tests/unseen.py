@@ -10,7 +10,7 @@ order. It keeps the events raised too, and no queue: what request W4 says of a m
 from collections import Counter, namedtuple
 
 from model import (
-    CHANGE, CHECK, CSP_2, CSP_T, CSP_V, DEFECT, INTERRUPT, LONG, MARKER, MISSED, PHASE, PLAN, SILENCE, SKIP, START, STATION_NUMBER,
+    CHANGE, CHECK, CSP_2, CSP_T, CSP_V, DEFECT, INTERRUPT, LONG, MARKER, MISSED, PHASE, PLAN, SILENCE, START, STATION_NUMBER,
     table_plan,
 )
 from reached import KINDS, PLANS
@@ -25,8 +25,7 @@ OPEN, DEFECTIVE, FOUND, JUMP, STOP, DEMAND = 'an open', 'a defect', 'a find', 'a
 BREAKS = (DEFECTIVE, FOUND, JUMP, STOP, DEMAND)
 ENDS_SAMPLING = (DEFECTIVE, JUMP, STOP, DEMAND)
 TICK, TAKE, REFUSED, WAITS, EQUAL = 'a tick', 'a take', 'a refused call', 'a change that waits', 'an equal frequency on demand'
-SKIPPED = 'a skip'
-BREAKS_NOTHING = (TICK, TAKE, REFUSED, WAITS, EQUAL, SKIPPED)
+BREAKS_NOTHING = (TICK, TAKE, REFUSED, WAITS, EQUAL)
 
 LEVELS = range(3)
 GOALS = (
@@ -84,7 +83,7 @@ class Reading:
         self.raised, self.told, self.left = [], 0, set()
         self.calls = {
             1: self.opened, UNIT: self.unit, 3: self.result, 4: self.interrupt, FIND: self.find, 6: self.tick, 7: self.take,
-            8: self.opened_from_table, CHANGE: self.changed, STATION_NUMBER: self.numbered, SKIP: self.skipped,
+            8: self.opened_from_table, CHANGE: self.changed, STATION_NUMBER: self.numbered,
         }
 
     def hold(self, good, what):
@@ -124,10 +123,6 @@ class Reading:
     def numbered(self, words, answer):
         """A station number is a seed at most, and a seed is no matter of this reading; it comes before the open."""
         self.hold(self.plan is None, 'a station number is taken after an open')
-
-    def skipped(self, words, answer):
-        """What state a skip comes to is no matter of this reading; it touches nothing, open or not."""
-        self.unbroken(SKIPPED)
 
     def unit(self, words, answer):
         k, order = words[0], answer[4]

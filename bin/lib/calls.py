@@ -2,14 +2,12 @@
 
 import re
 
-from lib.generator import skip
 from lib.words import (
     LEAST_N, MOST_N, MOST_STATION, NO_CHANGE, NO_ENTRY, NO_NUMBER, NO_PLAN, NO_RESULT, NO_SEED, NOT_OPEN, REFUSALS, SECOND_OPEN,
     TOO_LATE, counted, quoted, span,
 )
 
 OPEN, UNIT, RESULT, INTERRUPTED, FIND, TICK, TAKE, TABLE, CHANGE, STATION = range(1, 11)
-SKIP = 14  # the codes between are of no frame
 NO_FRAME = 0
 FRAME = re.compile(rb'[0-9A-F]{2}(?: [0-9A-F]{8})*')
 LONGEST_LINE = 80
@@ -18,11 +16,11 @@ MOST_CLEARANCE = 10_000
 MOST_SCREENED = 100_000
 WORDS = {
     OPEN: (7,), UNIT: (1,), RESULT: (1,), INTERRUPTED: (0,), FIND: (0,), TICK: (0,), TAKE: (0,), TABLE: (4, 5), CHANGE: (7,),
-    STATION: (1,), SKIP: (2,),
+    STATION: (1,),
 }
 NAMES = {
     NO_FRAME: 'ill-formed', OPEN: 'open', UNIT: 'unit', RESULT: 'result', INTERRUPTED: 'interrupt', FIND: 'check find',
-    TICK: 'tick', TAKE: 'take', TABLE: 'open from table', CHANGE: 'change', SKIP: 'skip',
+    TICK: 'tick', TAKE: 'take', TABLE: 'open from table', CHANGE: 'change',
     STATION: 'numbering',  # not 'station number', which a count behind it would seem to be
 }
 TYPES = {1: 'CSP-1', 2: 'CSP-2', 3: 'CSP-F', 4: 'CSP-T', 5: 'CSP-V'}
@@ -43,7 +41,6 @@ REFUSED = {
     TAKE: {2: NOT_OPEN},
     CHANGE: {2: NOT_OPEN, 3: NO_PLAN, 4: '', 10: '', 11: NO_CHANGE},
     STATION: {9: TOO_LATE},
-    SKIP: {},
 }
 
 
@@ -149,7 +146,6 @@ ASKING = {
     TAKE: lambda: 'take',
     CHANGE: change_asked,
     STATION: lambda number: f'station number {number:,}',
-    SKIP: lambda state, m: f'skip {counted(m, "step")} from 0x{state:X}',
 }
 
 
@@ -177,23 +173,15 @@ def skipped(first, last):
     return f', {counted(last - first + 1, "unit")} not seen: {span(first, last)}' if first <= last else ''
 
 
-def answer_fault(code, said, answer):
+def answer_fault(code, answer):
     """Why the program could not answer a call so, or None."""
     refusal, kind, number, unit, value = answer
     if refusal and refusal not in REFUSED[code]:
-        return f'no {NAMES[code]} is refused' + (f' with {refusal}' if REFUSED[code] else '')
+        return f'no {NAMES[code]} is refused with {refusal}'
     if not refusal and code == NO_FRAME:
         return 'an ill-formed frame is refused with 9'
     if kind and code != TAKE:
         return 'only a take tells an event'
-    return None if kind else value_fault(code, said, value)
-
-
-def value_fault(code, said, value):
-    """Why an answer to this call that tells no event does not have this value, or None."""
-    if code == SKIP:
-        due = skip(*said)
-        return None if value == due else f'the state after {counted(said[1], "step")} is 0x{due:X}'
-    if value and code != UNIT:
+    if value and not kind and code != UNIT:
         return 'only a unit is given an order'
-    return 'an order is 0 or 1' if value > 1 else None
+    return None

@@ -162,6 +162,6 @@ def plain_fault(refusal, kind, number, unit, value):
         return f'there is no refusal {refusal}'
     if refusal and (kind or number or unit or value):
         return 'a refusal has zeros behind its number'
-    if not refusal and (number or unit):
-        return 'an answer with no event has a value and no more'
+    if not refusal and (number or unit or value > 1):
+        return 'an answer with no event has at most an order, 0 or 1'
     return None

@@ -49,19 +49,16 @@ class Phases(Stretches):
     def name(self, phase):
         return NOT_TOLD if phase is None else PHASES[phase]
 
-    def told(self, parts):
-        """What an entry tells: up to which units which phase held."""
-        for unit, phase in parts:
-            self.through(unit, phase)
-
-
-def told_by(before, kind, unit, value, may_drop):
-    """An entry tells that the phase before it held up to its unit. After a marker it may tell that unit's own."""
-    if kind == MISSED:
-        return [(unit - 1, before), (unit + value - 1, SCREENING)]
-    if before is None:
-        return [(unit - 1, None), (unit, own_phase(kind, value, may_drop))]
-    return [(unit, before)]
+    def told(self, before, kind, unit, value, may_drop):
+        """An entry tells that the phase before it held up to its unit. After a marker it may tell that unit's own."""
+        if kind == MISSED:
+            self.through(unit - 1, before)
+            self.through(unit + value - 1, SCREENING)
+        elif before is None:
+            self.through(unit - 1, None)
+            self.through(unit, own_phase(kind, value, may_drop))
+        else:
+            self.through(unit, before)
 
 
 def own_phase(kind, value, may_drop):

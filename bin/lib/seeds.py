@@ -12,7 +12,6 @@ class Seeds:
         self.numbers = []    # those that were accepted; the last is the station's
         self.certain = True  # not so behind an answer to a frame 0A that the program could not give
         self.own = False     # the accepted open gave its seed itself
-        self.seed = None     # the one that it took, where that is known
 
     def accepted(self, number):
         self.numbers.append(number)
@@ -37,12 +36,8 @@ class Seeds:
         """An open was accepted: the seed that it takes, in words to stand behind its own."""
         self.own = gives_seed(code, said)
         if self.own:
-            self.seed = said[-1]
             return ''
-        if not self.there(code, said):
-            return NOT_TOLD
-        self.seed = self.numbers[-1]
-        return f' seed 0x{self.seed:X}, the station number'
+        return f' seed 0x{self.numbers[-1]:X}, the station number' if self.there(code, said) else NOT_TOLD
 
     # ---- To be looked at
 

@@ -7,11 +7,10 @@ where a marker stands for them, or no take has told them yet, the phase is not t
 from collections import Counter, deque
 
 from lib import calls, words
-from lib.calls import CHANGE, FIND, INTERRUPTED, NO_FRAME, OPEN, RESULT, SKIP, STATION, TABLE, TAKE, TICK, TYPES, UNIT
-from lib.draws import Draws
+from lib.calls import CHANGE, FIND, INTERRUPTED, NO_FRAME, OPEN, RESULT, STATION, TABLE, TAKE, TICK, TYPES, UNIT
 from lib.history import SAMPLING, SCREENING
 from lib.journal import Journal, plain_fault
-from lib.phases import Phases, own_phase, told_by
+from lib.phases import Phases, own_phase
 from lib.seeds import Seeds
 from lib.unseen import Runs, Unseen
 from lib.words import CHECK, DEFECT, GAP, INTERRUPT, KINDS, LONG, MISSED, PHASE, PLAN, SILENCE, START, counted, one_in
@@ -195,7 +194,6 @@ class Session:
         self.runs = Runs()
         self.plan = None
         self.seeds = Seeds()
-        self.draws = Draws()
         self.plans = Plans()
         self.waits = None     # the plan that waits, unless an untold event has taken it up
         self.limit = 0
@@ -222,16 +220,11 @@ class Session:
             return row(at, calls.refused(code, said, refusal, self.plan is not None))
         if kind:
             return self.entry(at, kind, number, unit, value)
-        return row(at, HEARD[code](self, code, said, value), self.latest_orders_fault(at))
-
-    def latest_orders_fault(self, at):
-        """Where the phase in force is told, it is that of all units up to the last; what is wrong with an order, or None."""
-        n, phase = self.in_force()
-        return None if phase is None else self.orders_fault(at, [(self.tally.last, phase)], n)
+        return row(at, HEARD[code](self, code, said, value))
 
     def answer_fault(self, code, said, answer):
         """Why the program could not answer this call so now, or None."""
-        fault = calls.answer_fault(code, said, answer) or (plain_fault(*answer) if answer[0] or not answer[1] else None)
+        fault = calls.answer_fault(code, answer) or (plain_fault(*answer) if answer[0] or not answer[1] else None)
         if fault is not None:
             return fault
         fault = self.refusal_fault(code, said, answer[0])
@@ -259,8 +252,6 @@ class Session:
         """The refusal that the calls so far ask for, 0 where they ask for none, and None where they do not tell."""
         if code == NO_FRAME:
             return 9
-        if code == SKIP:
-            return 0
         if code == STATION:
             return 0 if not self.plan and calls.is_station_number(*said) else 9
         if code in (OPEN, TABLE):
@@ -289,7 +280,6 @@ class Session:
     def entry(self, at, kind, number, unit, value):
         """A take that tells an entry."""
         before, began = self.journal.history.phase, self.journal.history.run_from
-        n = self.journal.frequencies.force
         fault = self.journal.hear(at, kind, number, unit, value)
         if fault or kind in (GAP, PLAN):
             self.waits = None
@@ -299,11 +289,8 @@ class Session:
             self.gap(number, number + value - 1, unit)
         elif fault is None:
             self.event(kind, number, unit)
-            parts = told_by(before, kind, min(unit, self.tally.last), value, self.may_drop())
-            self.phases.told(parts)
-            fault = self.not_raised(at, kind, unit, value) or self.orders_fault(at, parts, n)
-        if fault is None and kind in (PHASE, PLAN):
-            self.draws.anew()
+            self.phases.told(before, kind, min(unit, self.tally.last), value, self.may_drop())
+            fault = self.not_raised(at, kind, unit, value)
         if fault is None and kind == PHASE and self.leaves(before, value):
             fault = self.left_screening(at, unit, began)
         self.raised.least = max(self.raised.least, self.journal.last)
@@ -314,17 +301,6 @@ class Session:
         why = self.raised.told(kind, unit, value)
         if unit > self.tally.last:
             why = NO_SUCH_UNIT
-        return self.journal.cannot_be(at, why) if why else None
-
-    def orders_fault(self, at, parts, n):
-        """The orders of units whose phase is told now are those that they are due; what is wrong with one, or None.
-
-        `parts`: up to which units which phase held; `n`: in force at all of them.
-        """
-        if not self.journal.sound():
-            return None  # what is wrong already is not said again of an order
-        whys = (self.draws.through(unit, phase, n) for unit, phase in parts)
-        why = next(filter(None, whys), None)
         return self.journal.cannot_be(at, why) if why else None
 
     def alarms_unraised(self, count, unit):
@@ -363,7 +339,6 @@ class Session:
 
     def gap(self, first, last, long):
         """Markers that follow each other name one stretch to a reader."""
-        self.draws.hidden()
         if self.gaps and self.gaps[-1]['after'] is None:
             self.gaps[-1]['last'] = last
             self.gaps[-1]['long'] += long
@@ -375,7 +350,6 @@ class Session:
     def opened(self, code, said, value):
         taken = self.seeds.opened(code, said)
         self.plan = (code, (calls.seeded(*said) if code == OPEN else calls.table_entry(*said)) + taken)
-        self.draws.opened(self.seeds.seed)
         self.plans.opened(code, said)
         self.journal.opened_with(calls.frequency(code, said))
         self.limit = calls.unit_limit(code, said)
@@ -386,15 +360,11 @@ class Session:
         self.seeds.accepted(*said)
         return calls.asked(code, said)
 
-    def skip(self, code, said, value):
-        return f'{calls.asked(code, said)}: 0x{value:X}'
-
     def unit(self, code, said, value):
         number, = said
         first = self.tally.last + 1
         self.unseen.unit(self.tally.last, number, value)
         self.tally.unit(number, value)
-        self.draws.unit(number, value)
         self.raised.quiet = False
         if number > first:
             self.raised.surely(MISSED, first, number - first)
@@ -453,15 +423,12 @@ class Session:
 
     def waiting(self):
         """The plan that waits, where that is certain."""
-        return self.waits if self.every_event_told() else None
+        return self.waits if self.empty and not self.raised.more else None
 
     def in_force(self):
         """The n and the phase in force, where every event has been told and tells them; None where not."""
         force, phase = self.journal.frequencies.force, self.journal.history.phase
-        return (force, phase) if self.every_event_told() else (None, None)
-
-    def every_event_told(self):
-        return self.empty > 0 and not self.raised.more
+        return (force, phase) if self.empty and not self.raised.more else (None, None)
 
     def all_told(self):
         """Every event has been told, so the phase and the frequency in force are those of the units so far."""
@@ -470,13 +437,13 @@ class Session:
 
     def stretches(self):
         """The units up to the last, as stretches of one phase each."""
-        if self.every_event_told():
+        if self.empty and not self.raised.more:
             self.all_told()
         return self.phases.labelled(self.tally.last, self.tally.missed)
 
     def frequencies(self):
         """The frequencies in force over the units up to the last, to be looked at."""
-        if self.every_event_told():
+        if self.empty and not self.raised.more:
             self.all_told()
         return self.journal.frequencies.lines(self.tally.last, self.tally.missed)
 
@@ -484,5 +451,5 @@ class Session:
 HEARD = {
     OPEN: Session.opened, TABLE: Session.opened, UNIT: Session.unit, RESULT: Session.result, TICK: Session.ticked,
     INTERRUPTED: Session.interrupted, FIND: Session.found, TAKE: Session.nothing, CHANGE: Session.changed,
-    STATION: Session.numbered, SKIP: Session.skip,
+    STATION: Session.numbered,
 }

@@ -1,15 +1,15 @@
-"""A session in a few lines: plan, units, events, what was dropped, alarms, what was left, phases, frequencies, draws, a verdict."""
+"""A session in a few lines: plan, units, events, what was dropped, alarms, what was left, phases, frequencies, a verdict."""
 
 import textwrap
 
 from lib import phases
-from lib.calls import CHANGE, FIND, INTERRUPTED, NAMES, NO_FRAME, OPEN, RESULT, SKIP, STATION, TABLE, TAKE, TICK, UNIT
-from lib.words import EVENTS_DROPPED, KINDS, MORE_LEFT, NOT_SOUND, among, counted, single, span, spans
+from lib.calls import CHANGE, FIND, INTERRUPTED, NAMES, NO_FRAME, OPEN, RESULT, STATION, TABLE, TAKE, TICK, UNIT
+from lib.words import KINDS, among, counted, single, span, spans
 
 LABEL = 11
 WIDTH = 100
 FEW_GAPS = 2
-ORDER = (STATION, OPEN, TABLE, UNIT, RESULT, INTERRUPTED, FIND, TICK, CHANGE, TAKE, SKIP, NO_FRAME)
+ORDER = (STATION, OPEN, TABLE, UNIT, RESULT, INTERRUPTED, FIND, TICK, CHANGE, TAKE, NO_FRAME)
 
 
 def lines(session):
@@ -26,7 +26,6 @@ def lines(session):
         parts += [('alarms', [session.journal.alarms_told()])] if session.journal.last else []
         parts += [('left', left(session)), ('phases', phase_lines(session))] if last else []
         parts += [('frequency', session.frequencies())] if last and session.journal.asked else []
-        parts += [('draws', [session.draws.line(session.journal.sound(), session.every_event_told())])] if last else []
         parts += [('waiting', [session.waiting()])] if session.waiting() else []
     told = ['Summary']
     for label, texts in parts:
@@ -115,7 +114,8 @@ def untold(session):
     """Why a unit may have had an event that no entry tells; nothing where none can have had one."""
     with_units = [gap for gap in session.gaps if gap['after'] is None or gap['after'][2]]
     whys = {
-        EVENTS_DROPPED: with_units, NOT_SOUND: not session.journal.sound(), MORE_LEFT: open_end(session),
+        'events were dropped': with_units, 'the journal is not sound': not session.journal.sound(),
+        'more may be left to take': open_end(session),
     }
     return [why for why, holds in whys.items() if holds]
 

@@ -23,10 +23,6 @@ NOT_OPEN = 'no station is open'
 NO_PLAN = 'a plan number is out of range'
 NO_ENTRY = 'the table has no such entry'
 NO_CHANGE = 'another type, CSP-F, or i does not go with n'
-# Why something is not told.
-EVENTS_DROPPED = 'events were dropped'
-NOT_SOUND = 'the journal is not sound'
-MORE_LEFT = 'more may be left to take'
 REFUSALS = {
     1: 'the queue memory is not the station\'s',
     2: f'no sound record, or {NOT_OPEN}',

@@ -1,18 +1,10 @@
 // The blocks of sampling, the generator, and the place that it chooses in a block (document 01, "Sampling"). Nothing is multiplied to
 // more than 32 bits: on a controller that would be a routine of its own (document 02, W3).
-mod pairs;
-
 ghost use Rattle.std.specs.Prelude.{◌≡◌, ◌+◌, ◌*◌, ◌/◌, ◌%◌, ◌^◌, ◌≤◌};
 ghost use Rattle.rules.specs.Draw.{step, place};
 ghost use Rattle.rules.specs.Sampling.{block_length, next_place};
 
-pub use pairs::{applied, composed, pair_of, skip};
 use rules::Plan;
-
-// A step is a state times this, and this more.
-const MULTIPLIER: u32 = 1664525;
-
-const ADDEND: u32 = 1013904223;
 
 // L, of any n and level.
 pub fn block_length(p: Plan, level: u32) -> u64
@@ -71,7 +63,7 @@ fn wrapping_mul(a: u32, b: u32) -> u32
 pub fn step(s: u32) -> u32
     ensures { result ≡ step s }
 {
-    std::num::wrapping_add_u32(wrapping_mul(MULTIPLIER, s), ADDEND)
+    std::num::wrapping_add_u32(wrapping_mul(1664525, s), 1013904223)
 }
 
 // The place that the state s chooses in a block of len, counted from 0: of the low half's product only the carry counts. The length is

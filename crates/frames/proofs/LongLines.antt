@@ -16,7 +16,7 @@ over l n h = ne_eqb (length l) n (λ e. omega arith)
 
 long_bad : (l : List ℕ) → 80 < length l → frame_of l ≡ Bad
 unfolding frame_of
-long_bad l h = rw (over l 2 (omega arith), over l 11 (omega arith), over l 20 (omega arith), over l 38 (omega arith), over l 47 (omega arith), over l 65 (omega arith))
+long_bad l h = rw (over l 2 (omega arith), over l 11 (omega arith), over l 38 (omega arith), over l 47 (omega arith), over l 65 (omega arith))
 
 pub read_is : (l : List ℕ) → frame_of l ≡ read_line l
 unfolding read_line

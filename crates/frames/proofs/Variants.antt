@@ -10,7 +10,7 @@ use Rattle.rules.specs.declared.Refusal.TheVariants.{IllFormed}
 use Rattle.rules.specs.declared.Answer.{Answer}
 use Rattle.rules.specs.declared.Answer.TheVariants.{Refused, Done, Ordered, Held, Gap, Nothing}
 use Rattle.rules.specs.declared.Frame.{Frame}
-use Rattle.rules.specs.declared.Frame.TheVariants.{Open, OpenTable, StationNumber, Skip, Call}
+use Rattle.rules.specs.declared.Frame.TheVariants.{Open, OpenTable, StationNumber, Call}
 use Rattle.frames.specs.Replies.{Gives, session_of}
 use Rattle.frames.specs.declared.session.Standing.{Standing}
 use Rattle.rules.specs.contracts.Answer as answer
@@ -24,12 +24,10 @@ not_refused (Held e) k = refl
 not_refused (Gap first lost count) k = refl
 not_refused Nothing k = refl
 
--- neither a call nor a skip
 pub gives_again : (s : Standing) (queue : List ℕ) (f : Frame) (r : Standing) (before : List ℕ) (at : ℕ) (out : List ℕ)
-    → OneOf (0 ∷ 1 ∷ 2 ∷ 3 ∷ []) (tag_of frame.the_type f) → OneOf (0 ∷ 1 ∷ 2 ∷ 4 ∷ []) (tag_of frame.the_type f)
+    → OneOf (0 ∷ 1 ∷ 2 ∷ []) (tag_of frame.the_type f)
     → Gives (refused_reply (session_of s queue) IllFormed) r queue before at out → Gives (frame_reply true (session_of s queue) f) r queue before at out
-gives_again s queue (Open plan seed) r before at out k l g = g
-gives_again s queue (OpenTable kind letter aql period seed) r before at out k l g = g
-gives_again s queue (StationNumber number) r before at out k l g = g
-gives_again s queue (Skip state m) r before at out k l g = absurd (miss (0 ∷ 1 ∷ 2 ∷ 4 ∷ []) 3 tt l)
-gives_again s queue (Call c) r before at out k l g = absurd (miss (0 ∷ 1 ∷ 2 ∷ 3 ∷ []) 4 tt k)
+gives_again s queue (Open plan seed) r before at out k g = g
+gives_again s queue (OpenTable kind letter aql period seed) r before at out k g = g
+gives_again s queue (StationNumber number) r before at out k g = g
+gives_again s queue (Call c) r before at out k g = absurd (miss (0 ∷ 1 ∷ 2 ∷ []) 3 tt k)

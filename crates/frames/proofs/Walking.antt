@@ -19,7 +19,7 @@ use Rattle.rules.specs.declared.Found.TheVariants as found
 use Rattle.rules.specs.declared.Optional.{Optional}
 use Rattle.rules.specs.declared.Optional.TheVariants.{Given, LeftOff}
 use Rattle.rules.specs.declared.Frame.{Frame}
-use Rattle.rules.specs.declared.Frame.TheVariants.{Open, OpenTable, StationNumber, Skip, Call}
+use Rattle.rules.specs.declared.Frame.TheVariants.{Open, OpenTable, StationNumber, Call}
 use Rattle.rules.specs.declared.Reading.{Reading}
 use Rattle.rules.specs.declared.Reading.TheVariants.{Read, Bad}
 use Rattle.rules.specs.declared.Session.{Session}
@@ -67,7 +67,6 @@ frame_length true s (OpenTable kind letter aql period seed) = printed_length _
 frame_length false s (OpenTable kind letter aql period seed) = table_length s (seed_of seed s.number) (look_up kind letter aql period)
 frame_length true s (StationNumber number) = printed_length _
 frame_length false s (StationNumber number) = number_length (from-to 1 number 65535) s number
-frame_length b s (Skip state m) = printed_length _
 frame_length true s (Call c) = printed_length _
 frame_length false s (Call c) = printed_length _
 

@@ -105,13 +105,6 @@ pub fn answer_line(a: Answer) -> [u8; 33]
     printed(answer_values(a))
 }
 
-// The line of a value and of nothing else.
-pub fn value_line(value: u32) -> [u8; 33]
-    ensures { result ≡ printed (values 0 0 0 0 value) }
-{
-    printed(values(0, 0, 0, 0, value))
-}
-
 // A line put at an index.
 pub fn put_line(out: &mut [u8], at: usize, line: [u8; 33])
     requires { at + 33 ≤ length out.old }

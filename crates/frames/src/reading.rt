@@ -1,6 +1,6 @@
 // The frame that a line is.
 ghost use Rattle.std.specs.Prelude.{◌≡◌, ◌+◌, ◌*◌, ◌≤◌, length};
-ghost use Rattle.rules.specs.Frames.{hex, word, spaced, bare_frame, one_word_frame, two_word_frame, table_frame, seeded_frame, plan_frame, seven_word_frame, frame_of, read_line};
+ghost use Rattle.rules.specs.Frames.{hex, word, spaced, bare_frame, one_word_frame, table_frame, seeded_frame, plan_frame, seven_word_frame, frame_of, read_line};
 ghost use Rattle.frames.specs.Weights.{Weighs};
 
 use crate::digits;
@@ -56,25 +56,6 @@ fn one_word_frame(code: u64, a: u64) -> Reading
         return Reading::Read(Frame::StationNumber(a as u32));
     }
     Reading::Bad
-}
-
-// A state, and how many steps to skip from it.
-fn two_word_frame(code: u64, a: u64, b: u64) -> Reading
-    ensures { result ≡ two_word_frame code a b }
-{
-    if code != 14 {
-        return Reading::Bad;
-    }
-    if NONE <= a {
-        return Reading::Bad;
-    }
-    if NONE <= b {
-        return Reading::Bad;
-    }
-    Reading::Read(Frame::Skip {
-        state: a as u32,
-        m: b as u32,
-    })
 }
 
 fn table_frame(code: u64, kind: u64, letter: u64, aql: u64, period: u64, seed: Optional) -> Reading
@@ -179,7 +160,7 @@ fn seven_word_frame(
 
 // A frame of four words or more.
 fn longer_frame(weights: &[u64], line: &[u8]) -> Reading
-    requires { Weighs weights.now × (length line.now ≡ 2 → ⊥) × (length line.now ≡ 11 → ⊥) × (length line.now ≡ 20 → ⊥) }
+    requires { Weighs weights.now × (length line.now ≡ 2 → ⊥) × (length line.now ≡ 11 → ⊥) }
     ensures { result ≡ frame_of line.now }
 {
     let n = line.len();
@@ -230,13 +211,6 @@ pub fn read_line(weights: &[u64], line: &[u8]) -> Reading
     }
     if n == 2 {
         return bare_frame(digits::hex2(weights, line, 0));
-    }
-    if n == 20 {
-        return two_word_frame(
-            digits::hex2(weights, line, 0),
-            word(weights, line, 0),
-            word(weights, line, 1),
-        );
     }
     longer_frame(weights, line)
 }

@@ -2,12 +2,12 @@
 ghost use Rattle.std.specs.Prelude.{◌≡◌, true, false, List, ℕ, ◌+◌, ◌≤◌, length};
 ghost use Rattle.rules.specs.Tests.{within};
 ghost use Rattle.rules.specs.Calls.{open_call, outcome};
-ghost use Rattle.rules.specs.Frames.{new_session, answer_line, accepted, open_reply, reply_with, number_reply, seed_of, found_reply, table_reply, skip_reply, frame_reply, reply};
+ghost use Rattle.rules.specs.Frames.{new_session, answer_line, accepted, open_reply, reply_with, number_reply, seed_of, found_reply, table_reply, frame_reply, reply};
 ghost use Rattle.std.proofs.Math.Seq.{paste};
 ghost use Rattle.frames.specs.Replies.{Gives, session_of, new_standing};
 ghost use Rattle.frames.specs.Weights.{Weighs};
 
-use crate::printing::{answer_line, put_answer, put_line, put_refusal, value_line};
+use crate::printing::{answer_line, put_answer, put_line, put_refusal};
 use crate::reading::read_line;
 use rules::{Answer, Call, Found, Frame, Optional, Plan, Reading, Refusal, Station};
 
@@ -140,16 +140,7 @@ fn table_reply(
     }
 }
 
-// The state after so many steps: no standing and no queue bears on it, and both stay.
-fn skip_reply(s: Standing, state: u32, m: u32, out: &mut [u8], at: usize) -> Standing
-    requires { at + 33 ≤ length out.old }
-    ensures { (queue : List ℕ) → Gives (skip_reply (session_of s queue) state m) result queue out.old at out.new }
-{
-    put_line(out, at, value_line(draw::skip(state, m)));
-    s
-}
-
-// Before an accepted open only an open, a station number and a skip are taken.
+// Before an accepted open only an open and a station number are taken.
 fn first_reply(s: Standing, q: &mut [u32], frame: Frame, out: &mut [u8], at: usize) -> Standing
     requires { at + 33 ≤ length out.old }
     ensures { Gives (frame_reply false (session_of s q.old) frame) result q.new out.old at out.new }
@@ -168,7 +159,6 @@ fn first_reply(s: Standing, q: &mut [u32], frame: Frame, out: &mut [u8], at: usi
             table_reply(s, q, seed_of(seed, given), found, out, at)
         }
         Frame::StationNumber(number) => number_reply(s, number, out, at),
-        Frame::Skip { state, m } => skip_reply(s, state, m, out, at),
         Frame::Call(_) => refused_reply(s, Refusal::UnsoundRecord, out, at),
     }
 }
@@ -189,8 +179,7 @@ fn call_reply(s: Standing, q: &mut [u32], call: Call, out: &mut [u8], at: usize)
     }
 }
 
-// What the program makes of a line that a line feed ended, and its answer at an index. After an accepted open only another
-// call and a skip are taken.
+// What the program makes of a line that a line feed ended, and its answer at an index. After an accepted open only another call is taken.
 pub fn step(
     s: Standing,
     q: &mut [u32],
@@ -211,9 +200,6 @@ pub fn step(
         return first_reply(s, q, frame, out, at);
     }
     let Frame::Call(call) = frame else {
-        if let Frame::Skip { state, m } = frame {
-            return skip_reply(s, state, m, out, at);
-        }
         put_refusal(out, at, Refusal::IllFormed);
         return s;
     };

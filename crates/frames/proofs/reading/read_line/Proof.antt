@@ -14,11 +14,7 @@ unfolding frame_of read_line
 returns-2 c = rw c.before.before.if2.true (cc)
 
 returns-3 : tie.Need-returns-3
-unfolding frame_of read_line
-returns-3 c = rw c.before.before.before.before.if3.true (cc)
-
-returns-4 : tie.Need-returns-4
-returns-4 c = c.longer-frame.ensures ∙ read_is _
+returns-3 c = c.longer-frame.ensures ∙ read_is _
 
 pub read-line-spec : {M : Type 1} → statement M
 read-line-spec =
@@ -32,9 +28,4 @@ read-line-spec =
     (λ c κs. search rules)
     returns-2
     (λ c κs. search rules)
-    (λ c κs. search rules)
-    (λ c κs. search rules)
-    (λ c κs. search rules)
-    returns-3
-    (λ c κs. search rules)
-    returns-4)
+    returns-3)

@@ -14,10 +14,7 @@ returns-3 : tie.Need-returns-3
 returns-3 c = rw c.before.before.before.before.before.frame3.given.1 (c.before.before.number-reply.ensures c.before.before.before.before.before.before.before.before.before.args.q.now)
 
 returns-4 : tie.Need-returns-4
-returns-4 c = rw c.before.before.before.before.before.frame4.given.1 (c.before.before.skip-reply.ensures c.before.before.before.before.before.before.before.before.before.args.q.now)
-
-returns-5 : tie.Need-returns-5
-returns-5 c = let a = c.before.before.before.before.before.before.before.before.args in rw c.before.before.before.before.enum_told.given.1 (gives_refused _ _ _ _ a.s a.q.now UnsoundRecord c.before.before.refused-reply.ensures)
+returns-4 c = let a = c.before.before.before.before.before.before.before.before.args in rw c.before.before.before.before.enum_told.given.1 (gives_refused _ _ _ _ a.s a.q.now UnsoundRecord c.before.before.refused-reply.ensures)
 
 pub first-reply-spec : {M : Type 1} → statement M
 first-reply-spec =
@@ -34,8 +31,6 @@ first-reply-spec =
     (λ c. search rules)
     (λ c κs. search rules)
     (λ c. search rules)
-    (λ c κs. search rules)
-    (λ c. search rules)
     (λ c. search rules)
     returns
     (λ c. search rules)
@@ -44,6 +39,4 @@ first-reply-spec =
     (λ c. search rules)
     returns-3
     (λ c. search rules)
-    returns-4
-    (λ c. search rules)
-    returns-5)
+    returns-4)
