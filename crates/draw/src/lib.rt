@@ -1,5 +1,7 @@
 // The blocks of sampling, the generator, and the place that it chooses in a block (document 01, "Sampling"). Nothing is multiplied to
 // more than 32 bits: on a controller that would be a routine of its own (document 02, W3).
+#![tactic(auto)]
+
 ghost use Rattle.std.specs.Prelude.{◌≡◌, ◌+◌, ◌*◌, ◌/◌, ◌%◌, ◌^◌, ◌≤◌};
 ghost use Rattle.rules.specs.Draw.{step, place};
 ghost use Rattle.rules.specs.Sampling.{block_length, next_place};
@@ -7,6 +9,7 @@ ghost use Rattle.rules.specs.Sampling.{block_length, next_place};
 use rules::Plan;
 
 // L, of any n and level.
+#[tactic(auto, using(std::proofs::lemmas::Bool::Decides::nat_tests), unfolding(rules::specs::Sampling::block_length))]
 pub fn block_length(p: Plan, level: u32) -> u64
     ensures { result ≡ block_length p level }
 {
@@ -22,6 +25,7 @@ pub fn block_length(p: Plan, level: u32) -> u64
 }
 
 // The place after this one, counted round a block.
+#[tactic(auto, using(std::proofs::lemmas::Bool::Decides::nat_tests), unfolding(rules::specs::Sampling::next_place))]
 pub fn next_place(len: u64, at: u32) -> u64
     ensures { (result ≡ next_place len at) × (result ≤ at + 1) }
 {

@@ -1,4 +1,6 @@
 // Lines in, an answer line out for each (document 01, "Frames").
+#![tactic(auto)]
+
 mod digits;
 mod lines;
 mod printing;

@@ -1,4 +1,6 @@
 // For tests: the generator's step and the place, for a program in C to call (tests/places.c).
+#![tactic(auto)]
+
 ghost use Rattle.std.specs.Prelude.{◌≡◌};
 ghost use Rattle.rules.specs.Draw.{step, place};
 

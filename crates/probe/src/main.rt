@@ -1,4 +1,6 @@
 // One call on any record and any queue memory, for tests: a request a line, all that the call leaves a line.
+#![tactic(auto)]
+
 mod request;
 mod shown;
 

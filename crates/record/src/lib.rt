@@ -1,6 +1,8 @@
 // Document 01, "Plan numbers" and "A sound record": total tests of a plan and of a record. They go by the type of plan and
 // return early where one fails. Every call tests the record, and the record is sound: it takes none of these returns and
 // makes the tests of its own type alone, which is fewer instructions than all of them joined without a branch.
+#![tactic(auto)]
+
 ghost use Rattle.std.specs.Prelude.{◌≡◌, not, ◌+◌, ◌≤◌, eqb};
 ghost use Rattle.rules.specs.Tests.{pick, within, ◌and◌};
 ghost use Rattle.rules.specs.Plan.{csp1, csp_v, clearance_limit, in_range, unit_limit, room_in_range};

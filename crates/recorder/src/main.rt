@@ -1,4 +1,6 @@
 // Frames from standard input, one a line; the answer to each goes to standard output as soon as its line has ended.
+#![tactic(auto)]
+
 mod held;
 
 ghost use Rattle.std.specs.Prelude.{true, false, ◌++◌, ◌≡◌, ◌+◌, ◌≤◌, pos, length, take};

@@ -1,5 +1,7 @@
 // What a call costs by the room of its queue, for the benchmark: reads C and a number of turns, opens a station
 // with room for C entries, and ticks and takes once a turn. Prints how many events were raised.
+#![tactic(auto)]
+
 ghost use Rattle.std.specs.Prelude.{◌≤◌, ◌≡◌, length};
 
 use libc::{STDIN_FILENO, STDOUT_FILENO};

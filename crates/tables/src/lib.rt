@@ -1,4 +1,6 @@
 // The look-up in the built-in tables (document 01, "Table V" and "Frames").
+#![tactic(auto)]
+
 mod figures;
 
 ghost use Rattle.std.specs.Prelude.{◌≡◌, ◌+◌, ◌*◌, ◌≤◌, ◌<◌};
