@@ -135,7 +135,7 @@ def edit(bends):
 
 def log(*errors, verdict='not proved'):
     """A log with these errors, from a folder with a space in its name."""
-    said = ''.join(f'/a folder/target/must-fail/draw/bent/{place}: error: {text}\n' for place, text in errors)
+    said = ''.join(f'/a folder/{place}: error: {text}\n' for place, text in errors)
     return f'{said}fn draw::product: {verdict}\nlogic=not-proved\n'
 
 

@@ -32,13 +32,13 @@ class Missing(Exception):
 
 @lru_cache(maxsize=None)
 def kit():
-    """The kit's folder: `rt doc` names a page two folders below it."""
+    """The kit's folder: `rt doc` names a page in it."""
     if shutil.which('rt') is None:
         raise Missing('rt is not on the path: the Rattle kit proves, builds and runs the programs')
     asked = subprocess.run(['rt', 'doc'], capture_output=True, text=True)
     if asked.returncode != 0:
         raise Missing(f'the Rattle kit does not work: rt doc ended with {asked.returncode}: {asked.stderr.strip()}')
-    return Path(asked.stdout.strip()).parent.parent
+    return Path(asked.stdout.strip()).parent
 
 
 def kit_here():
