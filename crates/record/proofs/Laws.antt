@@ -3,7 +3,7 @@ use Prim.Native.Nat.{ℕ}
 use mathlib.Core.Bool.{Bool, true, false, not}
 use mathlib.Core.Path.{◌≡◌, ◌∙◌, refl, sym, ap}
 use lib.Dec.{ltb, leb, eqb}
-use borrow.Author.Tests.{eq-eqb, ne_eqb, not_true, not_false}
+use borrow.Author.Tests.{eq-eqb, ne_eqb, not-true, not-false}
 use Rattle.rules.specs.Tests.{pick, within, ◌and◌, ◌or◌}
 use Rattle.rules.specs.Plan.{csp1, csp2, csp_f, csp_t, csp_v, clearance_limit, long_limit, highest_unit, in_range}
 use Rattle.rules.specs.Sampling.{block_length}
@@ -14,10 +14,10 @@ use Rattle.rules.specs.declared.Sampling.{Sampling}
 
 -- what a call answered, where the program branches on its negation
 pub fails : (a b : Bool) → b ≡ a → not b ≡ true → a ≡ false
-fails a b e h = sym e ∙ not_true b h
+fails a b e h = sym e ∙ not-true b h
 
 pub holds : (a b : Bool) → b ≡ a → not b ≡ false → a ≡ true
-holds a b e h = sym e ∙ not_false b h
+holds a b e h = sym e ∙ not-false b h
 
 abbrev pub common : Plan → Bool
 common p = within csp1 p.kind csp_v and within 2 p.n 200 and within 1 p.i clearance_limit
