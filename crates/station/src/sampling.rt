@@ -136,7 +136,7 @@ pub fn sampled_good(p: Plan, unit: u32, m: Sampling) -> Moved
     quiet(Phase::Sample(m))
 }
 
-#[tactic(auto, using(std::proofs::lemmas::Bool::Decides::nat_tests), unfolding(rules::specs::Sampling::need_after_sampling))]
+#[tactic(auto, using(record::proofs::Laws::as_tests), unfolding(rules::specs::Sampling::need_after_sampling))]
 fn need_after_sampling(p: Plan, q: Plan, row: u32) -> u32
     ensures { result ≡ need_after_sampling p q row }
 {
@@ -167,7 +167,7 @@ fn revert(need: u32, unit: u32) -> Moved
     }
 }
 
-#[tactic(auto, using(std::proofs::lemmas::Bool::Decides::nat_tests), unfolding(rules::specs::Sampling::sampled_bad))]
+#[tactic(auto, using(record::proofs::Laws::as_tests), unfolding(rules::specs::Sampling::sampled_bad))]
 pub fn sampled_bad(p: Plan, q: Plan, unit: u32, m: Sampling) -> Moved
     ensures { result ≡ sampled_bad p q unit m }
 {

@@ -81,7 +81,7 @@ fn need_after_defect(p: Plan, need: u32) -> u32
     if p.kind == CSP_V { p.i } else { need }
 }
 
-#[tactic(auto, using(std::proofs::lemmas::Bool::Decides::nat_tests), unfolding(rules::specs::Screening::long_screening))]
+#[tactic(auto, using(record::proofs::Laws::as_tests), unfolding(rules::specs::Screening::long_screening))]
 fn long_screening(p: Plan, screened: u32) -> bool
     ensures { result ≡ long_screening p screened }
 {

@@ -209,6 +209,7 @@ fn handle(k: u32, j: Ruled) -> Ruled
     }
 }
 
+#[tactic(auto, using(crate::proofs::Laws::jumped_fit))]
 pub fn unit_rule(k: u32, s: Stream) -> Ruled
     requires { StreamFacts s × (s.tally.owed ≡ false) × (s.tally.last < k) × (k ≤ unit_limit s.plan) }
     ensures { result ≡ unit_rule k s }
