@@ -32,22 +32,17 @@ class Missing(Exception):
 
 @lru_cache(maxsize=None)
 def kit():
-    """The kit's folder: `rt doc` names a page two folders below it."""
+    """The kit's folder: `rt doc` names a page in it."""
     if shutil.which('rt') is None:
         raise Missing('rt is not on the path: the Rattle kit proves, builds and runs the programs')
     asked = subprocess.run(['rt', 'doc'], capture_output=True, text=True)
     if asked.returncode != 0:
         raise Missing(f'the Rattle kit does not work: rt doc ended with {asked.returncode}: {asked.stderr.strip()}')
-    return Path(asked.stdout.strip()).parent.parent
-
-
-def kit_here():
-    """What the kit has for this processor."""
-    return kit() / 'on' / platform.machine()
+    return Path(asked.stdout.strip()).parent
 
 
 def toolchain():
-    return kit_here() / 'toolchain'
+    return kit() / 'toolchain'
 
 
 def emulator():
@@ -74,11 +69,14 @@ def kit_program(name):
 
 @lru_cache(maxsize=None)
 def static_library(name):
-    """target/staticlib/libNAME.a, proved and built anew once for each run."""
-    built = subprocess.run(['rt', 'staticlib', name], cwd=RECORDER_ROOT, capture_output=True, text=True)
-    path = RECORDER_ROOT / 'target' / 'staticlib' / f'lib{name}.a'
+    """crates/NAME/out/libNAME.a, proved and built anew once for each run."""
+    folder = RECORDER_ROOT / 'crates' / name
+    if not folder.is_dir():
+        raise Missing(f'crates/{name} is not there')
+    built = subprocess.run(['rt', 'lib'], cwd=folder, capture_output=True, text=True)
+    path = folder / 'out' / f'lib{name}.a'
     if built.returncode != 0 or not path.is_file():
-        raise Missing(f'rt staticlib {name} ended with {built.returncode}: {(built.stdout + built.stderr).strip()[-1000:]}')
+        raise Missing(f'rt lib in crates/{name} ended with {built.returncode}: {(built.stdout + built.stderr).strip()[-1000:]}')
     return path
 
 
@@ -134,7 +132,7 @@ def c_under_kit(name, sources, flags=(), libraries=()):
     objects = [path.with_name(f'{path.name}-{source.stem}.o') for source in sources]
     for source, made in zip(sources, objects):
         build_step([*clang, '-c', source, '-o', made])
-    build_step([kit_here() / 'bin' / 'rattle-link', '--target', target, '--toolchain', toolchain(), '-o', path, *objects, *libraries])
+    build_step([kit() / 'bin' / 'rattle-link', '--target', target, '--toolchain', toolchain(), '-o', path, *objects, *libraries])
     return under_kit(path)
 
 
