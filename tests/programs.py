@@ -64,6 +64,8 @@ def kit_program(name):
 def static_library(name):
     """crates/NAME/out/libNAME.a, proved and built anew once for each run."""
     folder = RECORDER_ROOT / 'crates' / name
+    if not folder.is_dir():
+        raise Missing(f'crates/{name} is not there')
     built = subprocess.run(['rt', 'lib'], cwd=folder, capture_output=True, text=True)
     path = folder / 'out' / f'lib{name}.a'
     if built.returncode != 0 or not path.is_file():

@@ -6,8 +6,9 @@ mod shown;
 
 ghost use Rattle.std.specs.Prelude.{◌≡◌, length};
 
-use libc::{STDIN_FILENO, STDOUT_FILENO};
 use request::Scan;
+use std::io;
+use std::io::{Read, Write};
 
 // The words that answer a request, none where it is no request.
 fn told(head: &[u32; 45], queue: &mut [u32], scan: Scan, out: &mut [u8]) -> usize {
@@ -22,51 +23,72 @@ fn told(head: &[u32; 45], queue: &mut [u32], scan: Scan, out: &mut [u8]) -> usiz
     shown::put_words(out, at, &queue[0..n])
 }
 
-fn answer(head: &[u32; 45], queue: &mut [u32], scan: Scan, out: &mut [u8]) {
+fn answer<W: Write>(
+    writer: &mut W,
+    head: &[u32; 45],
+    queue: &mut [u32],
+    scan: Scan,
+    out: &mut [u8],
+) -> io::Result<()> {
     let at = told(head, queue, scan, out);
     let end = shown::put_end(out, at);
-    io::write_all(STDOUT_FILENO, &out[0..end]);
+    writer.write_all(&out[0..end])
 }
 
 // One byte more; a line feed ends a request.
-fn fed(b: u8, before: Scan, head: &mut [u32; 45], queue: &mut [u32], out: &mut [u8]) -> Scan {
+fn fed<W: Write>(
+    writer: &mut W,
+    b: u8,
+    before: Scan,
+    head: &mut [u32; 45],
+    queue: &mut [u32],
+    out: &mut [u8],
+) -> io::Result<Scan> {
     let scan = request::scanned(before, b, head, queue);
     if b != b'\n' {
-        return scan;
+        return Ok(scan);
     }
-    answer(head, queue, scan, out);
-    request::fresh()
+    answer(writer, head, queue, scan, out)?;
+    Ok(request::fresh())
 }
 
-fn feed(
+fn feed<W: Write>(
+    writer: &mut W,
     chunk: &[u8],
     before: Scan,
     head: &mut [u32; 45],
     queue: &mut [u32],
     out: &mut [u8],
-) -> Scan {
+) -> io::Result<Scan> {
     let mut scan = before;
     let mut i = 0;
     while i < chunk.len() {
-        scan = fed(chunk[i], scan, head, queue, out);
+        scan = fed(writer, chunk[i], scan, head, queue, out)?;
         i += 1;
     }
-    scan
+    Ok(scan)
 }
 
 // That the turns are counted is for the proof alone: no run uses them up.
-fn run(chunk: &mut [u8], head: &mut [u32; 45], queue: &mut [u32], out: &mut [u8]) {
+fn run<R: Read, W: Write>(
+    reader: &mut R,
+    writer: &mut W,
+    chunk: &mut [u8],
+    head: &mut [u32; 45],
+    queue: &mut [u32],
+    out: &mut [u8],
+) -> io::Result<()> {
     let mut turns = u64::MAX;
     let mut scan = request::fresh();
     while 0 < turns {
-        let got = libc::read(STDIN_FILENO, chunk);
-        let n = io::count(got, chunk);
+        let n = reader.read(chunk)?;
         if n == 0 {
-            return;
+            return Ok(());
         }
-        scan = feed(&chunk[0..n], scan, head, queue, out);
+        scan = feed(writer, &chunk[0..n], scan, head, queue, out)?;
         turns -= 1;
     }
+    Ok(())
 }
 
 fn chunk_space() -> [u8; 16384]
@@ -87,10 +109,19 @@ fn out_space() -> [u8; 112000]
     [0; 112000]
 }
 
-fn main() {
+fn main(rt: HostRuntime) -> io::Result<()> {
+    let mut reader = rt.stdin();
+    let mut writer = rt.stdout();
     let mut chunk = chunk_space();
     let mut head = [0u32; 45];
     let mut queue = queue_space();
     let mut out = out_space();
-    run(&mut chunk, &mut head, &mut queue, &mut out);
+    run(
+        &mut reader,
+        &mut writer,
+        &mut chunk,
+        &mut head,
+        &mut queue,
+        &mut out,
+    )
 }

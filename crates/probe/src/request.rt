@@ -6,7 +6,7 @@ use rules::{
 };
 
 // A word as far as it has been read, and how many came before it.
-#[derive(Drop)]
+#[derive(Clone, Copy)]
 pub struct Scan {
     pub value: u32,
     pub digits: u32,

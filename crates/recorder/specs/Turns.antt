@@ -1,29 +1,42 @@
 -- What reads and writes, a turn and a run of the program promise.
-use Rattle.std.specs.Prelude.{ℕ, ◌≤◌, ◌<◌, ◌-◌, ◌^◌, Bool, true, false, ◌≡◌, List, [], ◌++◌, ◌⊎◌, ltb, ℤ, pos, length, take, drop, get_or}
-use Rattle.io.specs.Counts.{clamp_len}
+use Rattle.std.specs.Prelude.{ℕ, ◌≤◌, ◌<◌, ◌-◌, ◌^◌, min, Bool, true, false, ◌≡◌, ◌≢◌, ◌↔◌, List, [], ◌++◌, ◌⊎◌, ltb, Option, Result, Ok, Err, length, take, drop, get_or}
+use Rattle.std.specs.Io.KnownBytes.{Appends, Consumes}
+use Rattle.std.specs.IoError.{error_kind}
+use Rattle.std_io.specs.declared.io.error.Error.{Error}
+use Rattle.std_io.specs.declared.io.kind.ErrorKind.TheVariants.{Interrupted}
 use Rattle.rules.specs.Tests.{pick}
-use Rattle.rules.specs.Frames.{last_text}
+use Rattle.rules.specs.Frames.{last_text, program}
 use Rattle.rules.specs.declared.Session.{Session}
 use Rattle.frames.specs.Course.{Course}
 use Rattle.frames.specs.Replies.{session_of}
 use Rattle.frames.specs.Walks.{Walks}
 use Rattle.frames.specs.declared.text.Walked.{Walked}
-use Rattle.recorder.specs.Course.{held_most, course, turn}
+use Rattle.recorder.specs.Course.{held_most, course, turn, whole}
 use Rattle.recorder.specs.declared.Moved.{Moved}
 use Rattle.recorder.specs.declared.Handed.{Handed}
 use Rattle.recorder.specs.declared.Turned.{Turned}
 
--- a read or a write that was lent n bytes moved as many as it answered; it is the last if it answered 0, and is not if it moved any
-pub record Moves (answer : ℤ) (n : ℕ) (r : Moved) : Type 0 where
-  pub bytes : r.bytes ≡ clamp_len answer n
+-- how many bytes a read or a write moved that was lent n of them: as many as it answered, and none where it failed
+abbrev pub count : Result ℕ Error → ℕ → ℕ
+count (Ok k) n = min k n
+count (Err e) n = 0
+
+-- whether a read or a write that answered so is the last: it answered 0, or it failed and no signal interrupted it
+abbrev pub IsLast : Result ℕ Error → Type 0
+IsLast (Ok k) = k ≡ 0
+IsLast (Err e) = error_kind e ≢ Interrupted
+
+-- a read or a write that was lent n bytes moved as many as it answered; it is not the last if it moved any
+pub record Moves (answer : Result ℕ Error) (n : ℕ) (r : Moved) : Type 0 where
+  pub bytes : r.bytes ≡ count answer n
   pub room : r.bytes ≤ n
-  pub over : answer ≡ pos 0 → r.over ≡ true
+  pub over : r.over ≡ true ↔ IsLast answer
   pub none : r.over ≡ true → r.bytes ≡ 0
 
 -- nothing is read while lines are left; else a read moved what it answered
 abbrev pub Brings : Bool → ℕ → Moved → Type 0
 Brings true n r = r ≡ record { bytes = 0; over = false }
-Brings false n r = (answer : ℤ) × Moves answer n r
+Brings false n r = (answer : Result ℕ Error) × Moves answer n r
 
 -- no more of a text is counted as handed on than there is, and all of it where all is said
 pub record Hands (text : List ℕ) (r : Handed) : Type 0 where
@@ -74,9 +87,18 @@ pub record Goes (s : Session) (line came : List ℕ) (r : Turned) (queue front o
   pub ready : Ready r front
 
 -- a run ends with the turn at the end of the input, where a write failed, or after as many turns as 64 bits count: there are parts
--- that its reads brought before, and this last turn is the one that follows them
-pub record Ran (r : Turned) (queue front out : List ℕ) : Type 0 where
+-- that its reads brought before, and this last turn is the one that follows them. Where the bytes of the reader are known, those that it
+-- gave are these parts and what is left; where those of the writer are, it has taken the texts of the turns in a row
+pub record Ran (r : Turned) (queue front out : List ℕ) (unread rest log grown : Option (List ℕ)) : Type 0 where
   pub parts : List (List ℕ)
   pub part : List ℕ
+  pub read : Consumes unread rest (whole parts ++ (part ++ left r front))
+  pub wrote : Appends log grown ((course parts).text ++ take r.handed.bytes out)
   pub last : Turns (turn r.came.over (course parts).session (course parts).line part) r queue front out
   pub cause : (r.came.over ≡ true) ⊎ (r.handed.all ≡ false) ⊎ (length parts ≡ 2 ^ 64 - 1)
+
+-- what was read was answered: what was written is what the definitions say of all of it
+pub record Served (unread rest log grown : Option (List ℕ)) : Type 0 where
+  pub input : List ℕ
+  pub read : Consumes unread rest input
+  pub wrote : Appends log grown (program input)

@@ -4,7 +4,7 @@ ghost use Rattle.std.proofs.Math.Seq.{paste};
 ghost use Rattle.rules.specs.Tests.{pick};
 ghost use Rattle.recorder.specs.Course.{held_most};
 
-fn least(a: usize, b: usize) -> usize
+pub fn least(a: usize, b: usize) -> usize
     ensures { (result ≡ min a b) × (result ≤ a) × (result ≤ b) }
 {
     if a < b { a } else { b }

@@ -3,16 +3,18 @@
 
 mod held;
 
-ghost use Rattle.std.specs.Prelude.{true, false, ◌++◌, ◌≡◌, ◌+◌, ◌≤◌, pos, length, take};
+ghost use Rattle.std.specs.Prelude.{true, false, ◌++◌, ◌≡◌, ◌↔◌, ◌+◌, ◌≤◌, length, take};
+ghost use Rattle.std.specs.Io.KnownBytes.{Appends, Consumes};
 ghost use Rattle.rules.specs.Frames.{new_session, last_text};
 ghost use Rattle.frames.specs.Replies.{session_of, new_standing};
 ghost use Rattle.recorder.specs.Course.{held_most};
-ghost use Rattle.recorder.specs.Turns.{Moves, Brings, Hands, Answers, no_room, held, left, Ready, Goes, Ran};
+ghost use Rattle.recorder.specs.Turns.{count, IsLast, Moves, Brings, Hands, Answers, no_room, held, left, Ready, Goes, Ran, Served};
 
 use frames::{Standing, Walked};
-use held::{keep, put};
-use libc::{STDIN_FILENO, STDOUT_FILENO};
+use held::{keep, least, put};
 use rules::{Answer, Refusal};
+use std::io;
+use std::io::{ErrorKind, Read, Write};
 
 // What a read or a write moved, and whether it was the last: at the end of the input, or where it failed.
 #[derive(Drop)]
@@ -39,23 +41,33 @@ struct Turned {
     handed: Handed,
 }
 
+// A call that failed has moved nothing.
+fn count(got: io::Result<usize>, buf: &[u8]) -> usize
+    ensures { (result ≡ count got (length buf.now)) × (result ≤ length buf.now) }
+{
+    match got {
+        Ok(n) => least(n, buf.len()),
+        Err(_) => 0,
+    }
+}
+
 // A call that a signal interrupted has moved nothing and is made again.
-fn is_over(got: isize, bytes: usize) -> bool
-    ensures { (result ≡ true → bytes ≡ 0) × (got ≡ pos 0 → bytes ≡ 0 → result ≡ true) }
+fn is_over(got: io::Result<usize>, bytes: usize) -> bool
+    ensures { (result ≡ true → bytes ≡ 0) × (bytes ≡ 0 → result ≡ true ↔ IsLast got) }
 {
     if 0 < bytes {
         return false;
     }
-    if got == 0 {
-        return true;
+    match got {
+        Ok(n) => n == 0,
+        Err(e) => e.kind() != ErrorKind::Interrupted,
     }
-    os::errno() != libc::EINTR
 }
 
-fn came_to(got: isize, buf: &[u8]) -> Moved
+fn came_to(got: io::Result<usize>, buf: &[u8]) -> Moved
     ensures { Moves got (length buf.now) result }
 {
-    let bytes = io::count(got, buf);
+    let bytes = count(got, buf);
     Moved {
         bytes: bytes,
         over: is_over(got, bytes),
@@ -64,14 +76,15 @@ fn came_to(got: isize, buf: &[u8]) -> Moved
 
 // Every byte in order and once, until a write fails. That the turns are counted is for the proof alone, which asks that every loop
 // ends: no run uses them up.
-fn write_all(text: &[u8]) -> Handed
-    ensures { Hands text.now result }
+fn write_all<W: Write>(writer: &mut W, text: &[u8]) -> Handed
+    ensures hands { Hands text.now result }
+    ensures bytes { Appends (W.contents writer.old) (W.contents writer.new) (take result.bytes text.now) }
 {
     let mut turns = u64::MAX;
     let mut done = 0;
     while done < text.len() {
         let rest = &text[done..];
-        let got = came_to(libc::write(STDOUT_FILENO, rest), rest);
+        let got = came_to(writer.write(rest), rest);
         done += got.bytes;
         let last = got.over | (turns == 0);
         if last {
@@ -89,8 +102,9 @@ fn write_all(text: &[u8]) -> Handed
 }
 
 // What the next read brings; while lines are left, nothing is read, since their peer waits.
-fn brought(more: bool, chunk: &mut [u8]) -> Moved
-    ensures { Brings more (length chunk.old) result }
+fn brought<R: Read>(reader: &mut R, more: bool, chunk: &mut [u8]) -> Moved
+    ensures brings { Brings more (length chunk.old) result }
+    ensures bytes { Consumes (R.remaining reader.old) (R.remaining reader.new) (take result.bytes chunk.new) }
 {
     if more {
         return Moved {
@@ -98,7 +112,7 @@ fn brought(more: bool, chunk: &mut [u8]) -> Moved
             over: false,
         };
     }
-    let got = libc::read(STDIN_FILENO, chunk);
+    let got = reader.read(chunk);
     came_to(got, chunk)
 }
 
@@ -147,7 +161,8 @@ fn no_room(over: bool, len: usize, at: usize) -> bool
 }
 
 // What a read brought, and the answers to the lines that it ended in one write.
-fn turn(
+fn turn<W: Write>(
+    writer: &mut W,
     before: Turned,
     q: &mut [u32],
     weights: &mut [u64; 256],
@@ -157,13 +172,14 @@ fn turn(
     out: &mut [u8],
 ) -> Turned
     requires { Ready before text.old × Brings before.more (length chunk.now) came × (length text.old ≡ held_most + length chunk.now) × (33 ≤ length out.old) }
-    ensures { (result.came ≡ came) × Goes (session_of before.standing q.old) (take (held before) text.old) (left before text.old ++ take came.bytes chunk.now) result q.new text.new out.new }
+    ensures goes { (result.came ≡ came) × Goes (session_of before.standing q.old) (take (held before) text.old) (left before text.old ++ take came.bytes chunk.now) result q.new text.new out.new }
+    ensures bytes { Appends (W.contents writer.old) (W.contents writer.new) (take result.handed.bytes out.new) }
 {
     put(text, before.to, chunk, came.bytes);
     let to = before.to + came.bytes;
     let w = answered(before.standing, q, weights, &text[0..to], came.over, out);
     let at = w.at;
-    let handed = write_all(&out[0..at]);
+    let handed = write_all(writer, &out[0..at]);
     let more = no_room(came.over, out.len(), at);
     let standing = w.standing;
     Turned {
@@ -196,7 +212,9 @@ fn start() -> Turned
 }
 
 // The turns to the last: at the end of the input, or where a write failed. They are counted for the proof alone, as in write_all.
-fn run(
+fn run<R: Read, W: Write>(
+    reader: &mut R,
+    writer: &mut W,
     q: &mut [u32],
     weights: &mut [u64; 256],
     chunk: &mut [u8],
@@ -204,13 +222,14 @@ fn run(
     out: &mut [u8],
 ) -> Turned
     requires { (q.old ≡ new_session.queue) × (length text.old ≡ held_most + length chunk.old) × (33 ≤ length out.old) }
-    ensures { Ran result q.new text.new out.new }
+    ensures ran { Ran result q.new text.new out.new (R.remaining reader.old) (R.remaining reader.new) (W.contents writer.old) (W.contents writer.new) }
+    ensures program { result.came.over ≡ true → result.handed.all ≡ true → Served (R.remaining reader.old) (R.remaining reader.new) (W.contents writer.old) (W.contents writer.new) }
 {
     let mut turns = u64::MAX;
     let mut t = start();
     loop {
-        let came = brought(t.more, chunk);
-        t = turn(t, q, weights, came, chunk, text, out);
+        let came = brought(reader, t.more, chunk);
+        t = turn(writer, t, q, weights, came, chunk, text, out);
         let last = t.came.over | !t.handed.all | (turns == 0);
         if last {
             return t;
@@ -240,11 +259,21 @@ fn out_space() -> [u8; 32769]
     [0; 32769]
 }
 
-fn main() {
+fn main(rt: HostRuntime) {
+    let mut reader = rt.stdin();
+    let mut writer = rt.stdout();
     let mut chunk = chunk_space();
     let mut text = text_space();
     let mut out = out_space();
     let mut queue = frames::new_queue();
     let mut weights = [0u64; 256];
-    run(&mut queue, &mut weights, &mut chunk, &mut text, &mut out);
+    run(
+        &mut reader,
+        &mut writer,
+        &mut queue,
+        &mut weights,
+        &mut chunk,
+        &mut text,
+        &mut out,
+    );
 }

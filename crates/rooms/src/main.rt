@@ -4,8 +4,9 @@
 
 ghost use Rattle.std.specs.Prelude.{◌≤◌, ◌≡◌, length};
 
-use libc::{STDIN_FILENO, STDOUT_FILENO};
 use rules::{Plan, Station};
+use std::io;
+use std::io::Read;
 
 // A decimal number and where it ends; no more than nine digits are read.
 #[derive(Drop)]
@@ -69,22 +70,22 @@ fn words() -> [u32; 12288]
     [0; 12288]
 }
 
-fn main() {
+fn main(rt: HostRuntime) -> io::Result<()> {
+    let mut reader = rt.stdin();
     let mut text = [0u8; 64];
-    let got = libc::read(STDIN_FILENO, &mut text);
-    let n = io::count(got, &text);
+    let n = reader.read(&mut text)?;
     let asked = &text[0..n];
     let room = parse(asked, 0);
     let end = room.end;
     if n <= end {
-        return;
+        return Ok(());
     }
     let count = parse(asked, end + 1);
     let mut q = words();
     let len = 3 * (room.value as usize);
     if 12288 < len {
-        return;
+        return Ok(());
     }
     let next = measured(&mut q[0..len], count.value);
-    io::print_decimal(STDOUT_FILENO, next as u64);
+    print!(rt; "{next}")
 }

@@ -1,2 +1,0 @@
-#include <errno.h>
-int rattle_errno(void){return errno;}
