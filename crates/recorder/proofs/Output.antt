@@ -1,13 +1,15 @@
 -- However the input is cut into parts, what is written is what the definitions say of the whole. Assumes nothing.
-use mathlib.Core.Path.{◌≡◌, refl, sym, ap, ◌∙◌}
+use mathlib.Core.Path.{◌≡◌, refl, sym, ap, subst, ◌∙◌}
 use mathlib.Core.Bool.{Bool, true, false}
 use mathlib.Core.List.{List, [], ◌∷◌, ◌++◌, append-nil, append_assoc}
-use Prim.Native.Nat.{ℕ, zero, suc, ◌+◌, ◌<◌, ◌≤◌}
+use Prim.Native.Nat.{ℕ, ◌<◌, ◌≤◌}
 use native.Mathlib.Decide.{dec_lt}
 use native.Mathlib.Omega.{arith}
 use lib.Dec.{eqb}
 use lib.ListN.{length, take, length-take}
 use lib.Seq.{append_snoc, take_all, take-append-le, take-take}
+use Rattle.std.specs.Prelude.{Option}
+use Rattle.std.specs.Io.KnownBytes.{Appends, Consumes}
 use Rattle.rules.specs.Tests.{pick}
 use Rattle.rules.specs.Frames.{reply, new_session, last_text, lines_of, cut_at, joined_to, output, program}
 use Rattle.rules.specs.declared.Reply.{Reply}
@@ -15,7 +17,7 @@ use Rattle.rules.specs.declared.Session.{Session}
 use Rattle.frames.specs.Course.{Course, after, walk}
 use Rattle.frames.proofs.Walking.{joined}
 use Rattle.recorder.specs.Course.{held_most, turn, turns, course, answers, whole}
-use Rattle.recorder.specs.Turns.{Turns, Ran}
+use Rattle.recorder.specs.Turns.{Turns, Ran, Served}
 use Rattle.recorder.specs.declared.Turned.{Turned}
 use Rattle.recorder.proofs.Alike.{reply_held}
 
@@ -136,9 +138,17 @@ last_text_lem true s line part r queue held out e a t =
 last_text_lem false s line part r queue held out e a t = cc
 
 -- a run that ended with the input, and whose writes took all, has handed on what the definitions say of the whole input
-pub ran_program : (r : Turned) (queue held out : List ℕ) (k : Ran r queue held out) → r.came.over ≡ true → r.handed.all ≡ true
-    → (course k.parts).text ++ take r.handed.bytes out ≡ program (whole k.parts)
-ran_program r queue held out k e a =
-    let c = course k.parts in
-    ap (λ (t : List ℕ). c.text ++ t) (last_text_lem r.came.over c.session c.line k.part r queue held out e a k.last)
-    ∙ answers_program k.parts
+module _ (r : Turned) (queue front out : List ℕ) (unread rest log grown : Option (List ℕ)) (k : Ran r queue front out unread rest log grown)
+    (e : r.came.over ≡ true) (a : r.handed.all ≡ true) where
+  pub ran_program : (course k.parts).text ++ take r.handed.bytes out ≡ program (whole k.parts)
+  ran_program =
+      let c = course k.parts in
+      ap (λ (t : List ℕ). c.text ++ t) (last_text_lem r.came.over c.session c.line k.part r queue front out e a k.last)
+      ∙ answers_program k.parts
+
+  pub served : Served unread rest log grown
+  served = record {
+    input = whole k.parts;
+    read = subst (λ (x : List ℕ). Consumes unread rest x) (ap (λ (x : List ℕ). whole k.parts ++ x) (k.end e) ∙ append-nil (whole k.parts)) k.read;
+    wrote = subst (λ (x : List ℕ). Appends log grown x) ran_program k.wrote;
+  }

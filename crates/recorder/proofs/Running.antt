@@ -6,6 +6,7 @@ use mathlib.Core.Logic.{◌⊎◌, inl, inr}
 use Prim.Native.Nat.{ℕ}
 use native.Mathlib.Omega.{arith}
 use lib.ListN.{take}
+use lib.Seq.{take_all}
 use Rattle.rules.specs.Frames.{new_session}
 use Rattle.rules.specs.declared.Session.{Session}
 use Rattle.frames.specs.Course.{after}
@@ -47,6 +48,16 @@ module _ (parts : List (List ℕ)) (part : List ℕ) (t r : Turned) (queue text 
       record { session = rw (more new_session [] parts part) v.session; line = rw (more new_session [] parts part) v.line }
   went_on true e w = let z : ◌≡◌ {A = ℕ} 0 1 = cc in absurd (omega arith)
 
+  -- what is written after it, where all of its answers were handed on
+  pub wrote_on : (over : Bool) → over ≡ false → r.handed.all ≡ true
+      → Turns (turn over (session_of t.standing queue) (take (held t) text) part) r queue' text' out
+      → (course (parts ++ part ∷ [])).text ≡ (course parts).text ++ take r.handed.bytes out
+  wrote_on false e a w =
+      let v = next_turn false w in let x = turn false (course parts).session (course parts).line part in
+      rw (more new_session [] parts part)
+      (ap (λ (l : List ℕ). (course parts).text ++ l) (sym (v.text ∙ take_all r.handed.bytes x.text (omega (arith, v.handed.whole a)))))
+  wrote_on true e a w = let z : ◌≡◌ {A = ℕ} 0 1 = cc in absurd (omega arith)
+
 -- why a turn is the last
 pub why_last : (over all spent : Bool) (P : Type 0) → (spent ≡ true → P) → (over || not all || spent) ≡ true → (over ≡ true) ⊎ (all ≡ false) ⊎ P
 why_last true all spent P f e = inl refl
@@ -56,3 +67,7 @@ why_last false true spent P f e = inr (inr (f e))
 pub neither : (a b : Bool) → (a || b) ≡ false → (a ≡ false) × (b ≡ false)
 neither true b e = (cc, cc)
 neither false b e = (refl, e)
+
+pub is_all : (a : Bool) → not a ≡ false → a ≡ true
+is_all true e = refl
+is_all false e = sym e

@@ -1,12 +1,12 @@
 -- How a walk over the text is a turn over what has come. Assumes nothing.
-use mathlib.Core.Path.{◌≡◌, refl, sym, ap, subst, ◌∙◌}
+use mathlib.Core.Path.{◌≡◌, refl, sym, ap, ◌∙◌}
 use mathlib.Core.Bool.{Bool, true, false, not, ◌&&◌}
-use mathlib.Core.List.{List, [], ◌∷◌, ◌++◌, append-nil, append_assoc}
+use mathlib.Core.List.{List, [], ◌++◌, append-nil}
 use Prim.Native.Nat.{ℕ, ◌+◌, ◌-◌, ◌/◌, ◌<◌, ◌≤◌, min}
 use native.Mathlib.Decide.{dec_lt}
 use native.Mathlib.Omega.{arith}
 use lib.Dec.{ltb}
-use lib.ListN.{length, take, drop, get_or, length-take, take-append-drop}
+use lib.ListN.{length, take, drop, length-take, take-append-drop}
 use lib.Seq.{take_all, take-take, take-append-le, take-append-add, take-add, drop_at, drop-append-add, length-take-le, get_or-take, paste, take-paste, length-paste, slice_empty}
 use borrow.Author.Tests.{ltb-true, ltb-false}
 use Rattle.rules.specs.Tests.{pick}
@@ -18,7 +18,7 @@ use Rattle.frames.specs.Walks.{Walks}
 use Rattle.frames.specs.declared.text.Walked.{Walked}
 use Rattle.frames.proofs.Walking.{NoFeed, joined, over, gone_most}
 use Rattle.recorder.specs.Course.{held_most}
-use Rattle.recorder.specs.Turns.{Moves, Brings, Hands, Ends, Answers, no_room, held, left, Ready, Goes}
+use Rattle.recorder.specs.Turns.{Brings, Hands, Ends, Answers, no_room, held, left, Ready, Goes}
 use Rattle.recorder.specs.declared.Moved.{Moved}
 use Rattle.recorder.specs.declared.Handed.{Handed}
 use Rattle.recorder.specs.declared.Turned.{Turned}
@@ -122,6 +122,7 @@ module _ (s : Session) (line came : List ℕ) (f : NoFeed line) (w : Walked) (qu
         whole = rw (slice_empty n front, append-nil);
         turns = rw (over, all_gone s line came f w queue before out k g) record { session = refl; line = held-line; handed = u.0; text = u.1 };
         ready = record { most = q; room = λ z. omega arith; plain = λ z. rw held-line (front_plain d g) };
+        end = λ z. absurd (true_false (sym z ∙ over));
       }
     where
       least : (n : ℕ) → n ≡ min held_most (to - w.from) → take n (drop w.from text) ≡ take held_most (drop w.from (line ++ came))
@@ -146,6 +147,7 @@ module _ (s : Session) (line came : List ℕ) (f : NoFeed line) (w : Walked) (qu
         whole = rw x (take-append-drop (w.from - length line) came);
         turns = rw (over, some_gone s line came f w queue before out k l) record { session = refl; line = refl; handed = u.0; text = u.1 };
         ready = record { most = q; room = λ z. absurd (true_false z); plain = λ z. absurd (true_false z) };
+        end = λ z. absurd (true_false (sym z ∙ over));
       }
 
   pub goes : (more : Bool) (n : ℕ) → more ≡ ltb (length before - w.at) 33 → n ≡ pick more (to - w.from) (min held_most (to - w.from))
@@ -166,6 +168,7 @@ goes_last s line w queue out k to text front l m e f moved h t over n c p q =
       whole = slice_empty n front;
       turns = rw over record { session = k.session; line = x ∙ sym (take_all held_most line (omega arith)); handed = u.0; text = u.1 };
       ready = record { most = q; room = λ z. omega arith; plain = λ z. rw x f };
+      end = λ z. refl;
     }
 
 -- a turn over what was left and what was brought

@@ -2,8 +2,8 @@
 use Rattle.std.specs.Prelude.{ℕ, ◌≤◌, ◌<◌, ◌-◌, ◌^◌, min, Bool, true, false, ◌≡◌, ◌≢◌, ◌↔◌, List, [], ◌++◌, ◌⊎◌, ltb, Option, Result, Ok, Err, length, take, drop, get_or}
 use Rattle.std.specs.Io.KnownBytes.{Appends, Consumes}
 use Rattle.std.specs.IoError.{error_kind}
-use Rattle.std_io.specs.declared.io.error.Error.{Error}
-use Rattle.std_io.specs.declared.io.kind.ErrorKind.TheVariants.{Interrupted}
+use Rattle.std.specs.declared.io.Error.{Error}
+use Rattle.std.specs.declared.io.ErrorKind.TheVariants.{Interrupted}
 use Rattle.rules.specs.Tests.{pick}
 use Rattle.rules.specs.Frames.{last_text, program}
 use Rattle.rules.specs.declared.Session.{Session}
@@ -79,12 +79,14 @@ pub record Ready (r : Turned) (front : List ℕ) : Type 0 where
   pub room : r.more ≡ false → r.to ≤ held_most
   pub plain : r.more ≡ false → (k : ℕ) → k < length (take r.to front) → get_or (take r.to front) k 0 ≡ 10 → ⊥
 
--- a turn over what has come: a part of it is gone over, and the rest is left, so that no byte is lost and none comes twice
+-- a turn over what has come: a part of it is gone over, and the rest is left, so that no byte is lost and none comes twice; at the end of
+-- the input nothing has come
 pub record Goes (s : Session) (line came : List ℕ) (r : Turned) (queue front out : List ℕ) : Type 0 where
   pub part : List ℕ
   pub whole : part ++ left r front ≡ came
   pub turns : Turns (turn r.came.over s line part) r queue front out
   pub ready : Ready r front
+  pub end : r.came.over ≡ true → came ≡ []
 
 -- a run ends with the turn at the end of the input, where a write failed, or after as many turns as 64 bits count: there are parts
 -- that its reads brought before, and this last turn is the one that follows them. Where the bytes of the reader are known, those that it
@@ -93,6 +95,7 @@ pub record Ran (r : Turned) (queue front out : List ℕ) (unread rest log grown 
   pub parts : List (List ℕ)
   pub part : List ℕ
   pub read : Consumes unread rest (whole parts ++ (part ++ left r front))
+  pub end : r.came.over ≡ true → part ++ left r front ≡ []
   pub wrote : Appends log grown ((course parts).text ++ take r.handed.bytes out)
   pub last : Turns (turn r.came.over (course parts).session (course parts).line part) r queue front out
   pub cause : (r.came.over ≡ true) ⊎ (r.handed.all ≡ false) ⊎ (length parts ≡ 2 ^ 64 - 1)

@@ -11,6 +11,7 @@ pub fn least(a: usize, b: usize) -> usize
 }
 
 // Characters put at an index.
+#[tactic(auto, using(std::proofs::lemmas::List::Edits::paste_more))]
 pub fn put(text: &mut [u8], at: usize, part: &[u8], n: usize)
     requires { (at + n ≤ length text.old) × (n ≤ length part.now) }
     ensures { text.new ≡ paste text.old at part.now n }
