@@ -5,15 +5,14 @@ import platform
 from pathlib import Path
 
 import peers
-import programs
 
 
 def describe(given):
-    print(f'Machine: {processor()}, {os.cpu_count()} cores, {natively()}')
-    print('recorder: target/bin/recorder, as rt built it')
+    print(f'Machine: {processor()}, {os.cpu_count()} cores, native')
+    print('recorder: crates/recorder/out/recorder, as rt built it')
     for name, what in peers.WHAT.items():
         print(f'{name}: {what}')
-    print(f'The peers are built alike, by the kit\'s clang {" ".join(peers.FLAGS)} for x86-64, with the kit\'s C library.')
+    print(f'The peers are built alike, by the kit\'s clang {" ".join(peers.FLAGS)} for x86-64, and run with the same C library.')
     print(f'Processor time is the median of {given.times} runs, turn about, with the least and the greatest; ratios are of medians.', flush=True)
 
 
@@ -21,9 +20,3 @@ def processor():
     lines = Path('/proc/cpuinfo').read_text().splitlines()
     names = [line.split(':', 1)[1].strip() for line in lines if line.startswith('model name')]
     return names[0] if names else platform.machine()
-
-
-def natively():
-    if programs.emulator():
-        return 'under the kit\'s emulator: a time says nothing, a ratio of times little; only instructions count'
-    return 'native'

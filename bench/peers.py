@@ -1,4 +1,4 @@
-"""The programs that the recorder is measured beside, all built alike: by the kit's compiler, for x86-64, with its C library.
+"""The programs that the recorder is measured beside, all built alike: by the kit's compiler, for x86-64, and linked by it.
 
 Each takes something away from the one before it, so that the steps between them say what the time goes into.
 """

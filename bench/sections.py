@@ -16,7 +16,7 @@ from progress import Progress
 FILED = ('mixed', 'tick-storm', 'ill-formed')
 TRIPPED = (peers.RECORDER, 'second', 'tuned', peers.FLOOR)
 DRAWN = 'mixed'
-# Counting is slow under an emulator: a look has to do with these.
+# Counting is slow: a look has to do with these.
 QUICKLY = (DRAWN, 'changes', 'takes', 'refused', 'ill-formed')
 ROOMS = (8, 64, 512, 4096)
 

@@ -17,7 +17,7 @@ FACTS = (
     '`returns`: `take n line`\n  ≟ `take m line`\n  does not hold (this comparison had to wait; it turned out false)',
 )
 GONE = (
-    '`mul-result`: `tie.Need-mul-result`: module `proofs.product.Tie` has no `Need-mul-result` that can be named from here',
+    '`mul-result`: `goal.mul-result`: module `proofs.product.Goals` has no `mul-result` that can be named from here',
     '`product-spec`: record `proofs.product.Lts.Start` has no field `if1`',
     '`mul-result`: `fit` is not a field of record `mir.Val.Fits`',
     '`mul-result`: `lt-of-le-of-lte` is not in scope; did you mean `lt-of-le-of-lt`?',
@@ -31,8 +31,8 @@ MISFITS = (
     '`product-spec`: this λ is checked against `URA {1} ?1`, which is not a function or extension (path) type',
     '`product-spec`: expected type `Lts.Closed Pre Post ?0`\n  but this has type `tie.Need-returns → Lts.Closed Pre Post ?1`',
 )
-FOLLOWING = '`spec`: `returns` was not admitted (it has holes or undetermined implicits, or was rejected), so this cannot be checked'
-OWN, OTHERS = 'proofs/product/Proof.antt:9:14', 'proofs/place/Proof.antt:9:14'
+FOLLOWING = '2 declarations that depend on `returns`, which was rejected, were not checked: spec, joined (via spec)'
+OWN, OTHERS = 'proofs/product/Answers.antt:9:14', 'proofs/place/Answers.antt:9:14'
 # What a log says of the declaration `find-shows` of proofs/Runs.antt, and of others.
 RUNS, FACT = 'proofs/Runs.antt:301:40', '`find-shows`: expected type `Shows a`, but this has type `Shows b`'
 NOT_ITS_OWN = {
@@ -90,7 +90,7 @@ def check(report, pair, options):
         expect(report, log((OWN, FACTS[0]), (OWN, text)), False, f'a fact fails, and something is gone after that: {text}')
     expect(report, log((OWN, FOLLOWING)), False, 'it only follows from another')
     expect(report, log(), False, 'nothing is said')
-    expect(report, log(verdict='no proof: expected `s` in p; `search` does not close `returns`'), True, 'a search fails')
+    expect(report, log(verdict='no proof: expected answers in p; `search` did not prove `returns`'), True, 'a search fails')
     report.check(refusal_of_function(log((OTHERS, FACTS[0])), 'draw', 'product'), 'must-fail: an error of another function counts')
     report.check(refusal_of_function(log((OWN, FACTS[0]), verdict='proved'), 'draw', 'product'), 'must-fail: a proved function counts')
     report.check(refusal_of_function(log((OWN, FACTS[0])), 'draw', 'step'), 'must-fail: a function that is not named counts')
@@ -113,7 +113,7 @@ def check_definitions(report):
     for place in ('src/lib.rt:29:26', 'specs/Unseen.antt:6:10'):
         expect_definition(report, log((place, FACT), (RUNS, FACT)), False, f'{place} cannot be read')
     expect_definition(report, log(), False, 'nothing is said')
-    expect_definition(report, log(verdict='no proof: `search` does not close `returns`'), False, 'a search of no declaration fails')
+    expect_definition(report, log(verdict='no proof: `search` did not prove `returns`'), False, 'a search of no declaration fails')
 
 
 def check_edits(report):
@@ -134,8 +134,8 @@ def edit(bends):
 
 
 def log(*errors, verdict='not proved'):
-    """A log with these errors, from a folder with a space in its name."""
-    said = ''.join(f'/a folder/target/must-fail/draw/bent/{place}: error: {text}\n' for place, text in errors)
+    """A log with these errors."""
+    said = ''.join(f'{"" if place.startswith("src/") else "./"}{place}: error: {text}\n' for place, text in errors)
     return f'{said}fn draw::product: {verdict}\nlogic=not-proved\n'
 
 

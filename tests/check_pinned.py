@@ -50,12 +50,13 @@ def read(report, file, theorem):
 
 
 def tables(report, text, type, listed):
-    """The definitions of a type, by name; the list under the theorem has each of them, and none is missing."""
-    found = dict(re.findall(rf'(?ms)^unfoldable pub (pinned-\S+) : {type}$\n^\1 =$(.*?)^    \}}$', text))
+    """The definitions of a type, by the name of the stored session; the list under the theorem has each of them, and none is missing."""
+    pinned = re.findall(rf'(?ms)^unfoldable pub (pinned_\S+) : {type}$\n^\1 =$(.*?)^    \}}$', text)
+    found = {name.replace('_', '-'): body for name, body in pinned}
     named = re.search(rf'(?m)^{listed} = (.*) ∷ \[\]$', text)
     expected = {path.stem for path in SESSIONS.glob('pinned-*.in') if path.stem.startswith('pinned-csp-') == (type == 'Session')}
     report.check(set(found) == expected, f'the pinned tables are {sorted(found)} and the stored sessions {sorted(expected)}')
-    report.check(named and named[1].split(' ∷ ') == list(found), f'the list {listed} does not name each table once')
+    report.check(named and named[1].split(' ∷ ') == [name for name, _ in pinned], f'the list {listed} does not name each table once')
     return found
 
 
@@ -66,7 +67,7 @@ def number(word):
 # ---- Sessions.antt
 
 def sessions(report):
-    text = read(report, 'Sessions.antt', 'sessions-hold : allOf seen sessions ≡ allOf due sessions')
+    text = read(report, 'Sessions.antt', 'sessions_hold : all_of seen sessions ≡ all_of due sessions')
     report.check(f'\n{CHANGE}\n' in text, 'Sessions.antt does not have the numbers of a change in the order of a frame')
     names = definitions(text)
     for name, body in tables(report, text, 'Session', 'sessions').items():
@@ -142,15 +143,15 @@ def exchanged(body):
 
 
 def runs(report):
-    text = read(report, 'Program.antt', 'runs-hold : allPrinted runs ≡ allDue runs')
+    text = read(report, 'Program.antt', 'runs_hold : all_printed runs ≡ all_due runs')
     for name, body in tables(report, text, 'Run', 'runs').items():
         sent, answers = exchanged(body)
-        torn = [unquoted(re.search(rf'{field} = {QUOTED};', body)[1]) for field in ('torn', 'tornAnswer')]
+        torn = [unquoted(re.search(rf'{field} = {QUOTED};', body)[1]) for field in ('torn', 'torn_answer')]
         yield name, sent + torn[0], answers + torn[1]
 
 
 def example(report):
-    text = read(report, 'Example.antt', 'example : program exampleInput ≡ exampleOutput')
+    text = read(report, 'Example.antt', 'example : program example_input ≡ example_output')
     yield 'example', *exchanged(text)
 
 
@@ -158,7 +159,7 @@ def example(report):
 
 def held_to_model(report):
     lists = 'plans ++ entries ++ memories ++ changes'
-    text = read(report, 'Edges.antt', f'edges-hold : allSeen ({lists}) ≡ allDue ({lists})')
+    text = read(report, 'Edges.antt', f'edges_hold : all_seen ({lists}) ≡ all_due ({lists})')
     kinds = {'plan': plan_due, 'find': entry_due, 'words': memory_due, 'change': change_due}
     rows = re.findall(r'\b(plan|find|words|change)((?: \d+)+) ▸ (\w+(?: \d+)*)', text)
     for kind, numbers, due in rows:
@@ -204,7 +205,7 @@ def second_says(report, sessions):
 
 def held_to_edges(report):
     """The table has each record of the probe's edges, with what the model says of it, and no other."""
-    text = read(report, 'Records.antt', 'records-hold : allSeen records ≡ allDue records')
+    text = read(report, 'Records.antt', 'records_hold : all_seen records ≡ all_due records')
     rows = dict(re.findall(r'(?<!\()\b((?:(?:waits(?: \d+){6}|loses \d+) \()?(?:screening|sampling)(?: \d+)+\)?) ▸ (passes|unsound)', text))
     due = {record_row(station): 'passes' if model.sound(station) else 'unsound' for _, *pair in edges.edges() for station in pair}
     for row, said in due.items():

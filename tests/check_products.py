@@ -22,20 +22,24 @@ COMMAND = programs.ROOT / 'bin' / 'compiled'
 
 # ---- What must be found
 
-# The functions of a crate, and what of each is of more than 32 bits.
+# The functions of a crate, each provable, and what of each is of more than 32 bits.
+HEAD = '#![tactic(auto)]\n\nghost use Rattle.std.specs.Prelude.{length, ◌<◌, ◌*◌};\n\n'
 WIDE_SOURCES = {
     'pub fn product(a: u32, b: u32) -> u64 { (a as u64) * (b as u64) }': 'mul of 64 bits in wide::product',
     'pub fn words(room: u32) -> usize { 3 * (room as usize) }': 'mul of 64 bits in wide::words',
     'pub fn rooms(len: usize) -> usize { len / 3 }': 'div of 64 bits in wide::rooms',
     'pub fn rest(len: usize) -> usize { len % 3 }': 'rem of 64 bits in wide::rest',
     'pub fn narrow(a: u16, b: u16) -> u32 { (a as u32) * (b as u32) }': None,
-    'pub fn element(q: &[u32], at: usize) -> u32 { q[at] }': None,
-    'pub fn put(q: &mut [u64], at: usize) { q[at] = 1; }': None,
-    'pub fn eighth(q: &[u8], at: usize) -> u8 { q[at * 8] }': 'mul of 64 bits in wide::eighth',
-    'pub fn same(q: &[u8], at: usize) -> u8 { q[at * 1] }': 'mul of 64 bits in wide::same',
-    'pub fn fourth(q: &[u32], at: usize) -> u32 { q[at * 4] }': 'mul of 64 bits in wide::fourth',
-    'pub fn cell(row: usize, at: usize) -> u32 { let place = row * 4 + at; let table = [7u32, 8, 9]; table[at] + table[place] }':
-        'mul of 64 bits in wide::cell',
+    'pub fn element(q: &[u32], at: usize) -> u32 requires few { at < 9 } requires in_q { at < length q.now } { q[at] }': None,
+    'pub fn put(q: &mut [u64], at: usize) requires few { at < 9 } requires in_q { at < length q.old } { q[at] = 1; }': None,
+    'pub fn eighth(q: &[u8], at: usize) -> u8 requires few { at < 9 } requires in_q { at * 8 < length q.now } { q[at * 8] }':
+        'mul of 64 bits in wide::eighth',
+    'pub fn same(q: &[u8], at: usize) -> u8 requires few { at < 9 } requires in_q { at * 1 < length q.now } { q[at * 1] }':
+        'mul of 64 bits in wide::same',
+    'pub fn fourth(q: &[u32], at: usize) -> u32 requires few { at < 9 } requires in_q { at * 4 < length q.now } { q[at * 4] }':
+        'mul of 64 bits in wide::fourth',
+    'pub fn cell(row: usize, at: usize) -> u32 requires first { row < 1 } requires in_table { at < 3 } '
+    '{ let place = row * 4 + at; let table = [7u32, 8, 9]; table[at] + table[place] }': 'mul of 64 bits in wide::cell',
 }
 # Instructions, and whether they work in more than 32 bits or call something.
 INSTRUCTIONS = {
@@ -67,29 +71,37 @@ ROUTINES = {
     'unsigned of(unsigned a, unsigned b) { return a / b; }': True,
 }
 # A library that exports the two names, and a recorder, each with a product of 64 bits.
-WIDE_PLACES = '''#[no_mangle]
+WIDE_PLACES = '''#![tactic(auto)]
+
+#[unsafe(no_mangle)]
 pub extern "C" fn draw_step(s: u32) -> u32 { s }
 
-#[no_mangle]
+#[unsafe(no_mangle)]
 pub extern "C" fn draw_place(s: u32, len: u16) -> u32 { ((s as u64) * 1664525 / 4294967296) as u32 }
 '''
-WIDE_RECORDER = '''ghost use Prim.Native.Nat.{_≤_};
+WIDE_RECORDER = '''#![tactic(auto)]
 
-fn word(b: u8) -> u32 ensures { λ r. ⌜ r ≤ 255 ⌝ } { b as u32 }
+ghost use Rattle.std.specs.Prelude.{◌≤◌};
+
+use std::io::{Read, Write};
+
+fn word(b: u8) -> u32 ensures { result ≤ 255 } { b as u32 }
 
 fn high(s: u32) -> u32 { ((s as u64) * 1664525 / 4294967296) as u32 }
 
 fn byte(s: u32) -> u8 { (s % 256) as u8 }
 
-fn main() {
+fn main(rt: HostRuntime) {
+    let mut reader = rt.stdin();
+    let mut writer = rt.stdout();
     let mut text = [0u8; 4];
-    let got = libc::read(libc::STDIN_FILENO, &mut text);
+    let got = reader.read(&mut text);
     let s = 16777216 * word(text[0]) + 65536 * word(text[1]) + 256 * word(text[2]) + word(text[3]);
     text[0] = byte(high(s));
-    let put = libc::write(libc::STDOUT_FILENO, &text);
+    let put = writer.write(&text);
 }
 '''
-WRITES = bytes(4)  # what it writes where nothing is read
+MAIN = r'(?:main|recorder::main\S*)'  # its functions by name, of which the compiler makes one or two
 # The function in which the compiler may divide by 3 with a 64-bit multiply, on x86-64.
 OPENS = 'frames::session::open_reply'
 
@@ -124,10 +136,10 @@ def check_sources(report):
     """Of each crate all that its functions reach in the others and in std is looked at too."""
     products = set()
     for crate in CRATES:
-        text = mir_of(programs.RECORDER_ROOT, crate)
-        missing = written(crate) - Counter(name.split('::')[-1] for name, *_ in mir.bodies(text) if name.startswith(f'{crate}::'))
+        functions = functions_of(programs.RECORDER_ROOT, crate)
+        missing = written(crate) - Counter(name.split('::')[-1] for name in functions if name.startswith(f'{crate}::'))
         report.check(not missing, f'the MIR of {crate} has no {", ".join(sorted(missing))}')
-        for made in mir.operations(text):
+        for made in mir.operations(functions):
             report.check(within_32(made), f'a {made}')
             if made.what == 'mul' and not made.of_index:
                 products.add(made)
@@ -147,28 +159,36 @@ def written(crate):
     return Counter(name for text in texts for name in re.findall(r'(?m)^[^/\n]*\bfn (\w+)', text))
 
 
-def mir_of(root, crate):
-    asked = subprocess.run(['rt', 'mir', crate], cwd=root, capture_output=True, text=True)
-    if asked.returncode != 0 or not asked.stdout:
-        raise programs.Missing(f'rt mir {crate} ended with {asked.returncode}: {asked.stderr.strip()[-500:]}')
-    return asked.stdout
+def functions_of(root, crate):
+    """The MIR of a crate's functions and of those that they reach, of which rt builds the libraries anew where it must."""
+    folder = root / 'crates' / crate
+    asked = subprocess.run(['rt', 'lib'], cwd=folder, capture_output=True, text=True)
+    if asked.returncode != 0:
+        raise programs.Missing(f'rt lib in {folder} ended with {asked.returncode}: {(asked.stdout + asked.stderr).strip()[-500:]}')
+
+    def library(name):
+        own = root / 'crates' / name / 'out' / 'rlib' / f'{name}.rlib'
+        return own if own.is_dir() else programs.kit() / 'rlibs' / f'{name}.rlib'
+
+    return mir.reached(library, crate)
 
 
 def check_wide_sources(report):
     """What must be found is found, and nothing else."""
     with tempfile.TemporaryDirectory() as folder:
-        text = mir_of(one_crate(folder, 'wide', '\n'.join(WIDE_SOURCES)), 'wide')
-    found = {str(made) for made in mir.operations(text) if not within_32(made)}
+        functions = functions_of(one_crate(folder, 'wide', HEAD + '\n'.join(WIDE_SOURCES)), 'wide')
+    found = {str(made) for made in mir.operations(functions) if not within_32(made)}
     due = {what for what in WIDE_SOURCES.values() if what}
     report.check(found == due, f'of sources with products of 64 bits {sorted(found)} were found')
 
 
-def one_crate(folder, name, text, needs='', root='lib.rt'):
+def one_crate(folder, name, text, kind='', root='lib.rt'):
     """A repository with one crate in it."""
-    source = Path(folder) / 'crates' / name / 'src' / root
+    folder = Path(folder)
+    source = folder / 'crates' / name / 'src' / root
     source.parent.mkdir(parents=True)
     source.write_text(text)
-    (Path(folder) / 'crates.txt').write_text(f'{name}: {needs}\n')
+    (folder / 'crates.txt').write_text(f'{name} {kind}:\n')
     return folder
 
 
@@ -233,7 +253,7 @@ def check_command(report):
         status, _ = run_command(words)
         report.check(status == due, f'bin/compiled {words} ends with {status}')
     with tempfile.TemporaryDirectory() as folder:
-        status, said = run_command(RECORDER_ROOT=one_crate(folder, 'places', WIDE_PLACES))
+        status, said = run_command(RECORDER_ROOT=str(one_crate(folder, 'places', WIDE_PLACES, 'staticlib')))
         starred = re.findall(r'(?m): .* with a star, \d+ with two$', said)
         report.check(status == 1 and len(starred) == len(TARGETS), f'with a product of 64 bits bin/compiled ends with {status}: {said}')
     with tempfile.TemporaryDirectory() as folder:
@@ -249,10 +269,8 @@ def check_recorder(report):
         passed = bool(names) and all(map(compiled.is_narrow, names))
         report.check(names and passed == due, f'what {source.strip()} calls on a Cortex-M0 is taken for the other kind: {names}')
     with tempfile.TemporaryDirectory() as folder:
-        one_crate(folder, 'recorder', WIDE_RECORDER, 'io libc', 'main.rt')
-        (Path(folder) / 'crates' / 'recorder' / 'stdout').write_bytes(WRITES)
-        status, said = run_command('--recorder', RECORDER_ROOT=folder)
-        found = re.search(r'__aeabi_lmul .*, in main\n', said) and re.search(r'(?m)^  main +\w*mul\w* ', said)
+        status, said = run_command('--recorder', RECORDER_ROOT=str(one_crate(folder, 'recorder', WIDE_RECORDER, root='main.rt')))
+        found = re.search(rf'__aeabi_lmul .*, in {MAIN}\n', said) and re.search(rf'(?m)^  {MAIN} +\w*mul\w* ', said)
         report.check(status == 1 and found, f'of a recorder with a product of 64 bits bin/compiled --recorder ends with {status}: {said}')
     status, said = run_command('--recorder')
     names = re.findall(r'(?m)^ +\d+  (\S+)', said)

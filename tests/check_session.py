@@ -6,7 +6,6 @@ tried in a scratch repository with a kit of shell scripts, so that nothing is pr
 
 import fcntl
 import os
-import platform
 import random
 import re
 import shutil
@@ -34,9 +33,14 @@ from lib.session import HEAD, Session
 
 COMMANDS = ('session', 'journal', 'run')
 NOT_PASSED_ON = ('RECORDER_ROOT', 'SECOND_ROOT', 'PYTHONUNBUFFERED')  # each would change what is tried
-PROVING = r'''bin/session: target/bin/recorder is not built yet: .* the prover's log is target/log/bin-session\.log
+PROVING = r'''bin/session: crates/recorder/out/recorder is not built yet: .* the prover's log is build/log/bin-session\.log
 bin/session: proving base, 1 of 2 \.\. proved in \d+ s
 bin/session: proving recorder, 2 of 2, about 30 s \.\. proved in \d+ s
+'''
+PROVED = '''\
+logic=proved crate=base
+logic=proved crate=recorder
+rt: running out/recorder; to give it other input, run that file yourself
 '''
 PATIENCE = 30
 EXAMPLE = '''\
@@ -958,32 +962,40 @@ RT = '''\
 #!/bin/sh
 kit='{kit}'
 [ -f "$kit/broken" ] && {{ echo 'rt: no toolchain' >&2; exit 2; }}
+name=$(basename "$PWD")
+made=out/$name
+sums() {{ cat src/* ../base/src/* "$made" 2>/dev/null | cksum; }}
 case $1 in
-doc) echo "$kit/docs/START-HERE.md" ;;
-check)
-    echo "$2" >>"$kit/asked"
+doc) echo "$kit/START-HERE.md" ;;
+lib | run)
+    echo "$name" >>"$kit/asked"
     [ -f "$kit/slow" ] && sleep 0.5
     [ -f "$kit/hang" ] && {{ sleep 300 & echo $! >"$kit/child"; wait; }}
-    [ -f "$kit/fail" ] && {{ echo "rt: $2 NOT PROVED"; exit 1; }}
+    [ -f "$kit/fail" ] && {{ echo "rt: $name NOT PROVED"; exit 1; }}
     [ -f "$kit/full" ] && {{ echo 'rattle: cannot write: No space left on device'; exit 2; }}
-    if [ "$2" = recorder ] && ! cmp -s crates/recorder/src/main.rt target/stamp/recorder; then
-        mkdir -p target/bin target/stamp
-        cp "$kit/recorder" target/bin/recorder && cp crates/recorder/src/main.rt target/stamp/recorder
+    mkdir -p out
+    if [ "$(sums)" != "$(cat "$made.stamp" 2>/dev/null)" ]; then
+        rm -f "$made.stamp"
+        [ "$1" = lib ] || cp "$kit/recorder" "$made"
+        echo "logic=proved crate=$name"
+        [ -f "$kit/edited" ] || sums >"$made.stamp"
     fi
-    echo "rt: $2 proved" ;;
+    [ "$1" = lib ] || {{ echo "rt: running $made; to give it other input, run that file yourself"; "$made"; }} ;;
 esac
 '''
-LOADER = '#!/bin/sh\nshift 2\nexec "$@"\n'
 NOTHING = '00 00 00000000 00000000 00000000'
-STORED = 'cat >/dev/null; cat "$(dirname "$0")/../../sessions/example.out"'  # a recorder for one session
-# Runs a command as if nothing could be written: a superuser may write whatever the modes say.
-READ_ONLY = '''\
-import os, runpy, sys
+STORED = 'cat >/dev/null; cat "$(dirname "$0")/../../../sessions/example.out"'  # a recorder for one session
+# Runs a command as if something were otherwise.
+AS_IF = '''\
+import os, platform, runpy, sys
 access = os.access
-os.access = lambda path, mode, **more: mode != os.W_OK and access(path, mode, **more)
+{}
 sys.argv = sys.argv[1:]
 runpy.run_path(sys.argv[0], run_name='__main__')
 '''
+# A superuser may write whatever the modes say.
+READ_ONLY = 'os.access = lambda path, mode, **more: mode != os.W_OK and access(path, mode, **more)'
+ANOTHER_PROCESSOR = 'platform.machine = lambda: "aarch64"'
 
 
 class Scratch:
@@ -991,15 +1003,16 @@ class Scratch:
 
     def __init__(self, folder):
         self.root, self.kit = folder / 'a repository', folder / 'a kit'
+        self.made, self.seal = self.root / 'crates' / 'recorder' / 'out' / 'recorder', self.root / 'build' / 'seal' / 'recorder'
+        self.log = self.root / 'build' / 'log' / 'bin-session.log'
         for part in ('bin', 'sessions'):
             shutil.copytree(ROOT / part, self.root / part, ignore=shutil.ignore_patterns('__pycache__'))
         self.write(self.root / 'tests' / 'programs.py', (ROOT / 'tests' / 'programs.py').read_text())
         self.write(self.root / 'crates.txt', '# two crates\nbase:\nrecorder: base io\n')
         self.write(self.root / 'crates' / 'base' / 'src' / 'lib.rt', 'one')
         self.write(self.root / 'crates' / 'recorder' / 'src' / 'main.rt', 'one')
-        self.write(self.kit / 'docs' / 'START-HERE.md', 'a page')
+        self.write(self.kit / 'START-HERE.md', 'a page')
         self.write(self.kit / 'KIT-ID', 'a kit')
-        self.write(self.kit / 'on' / platform.machine() / 'toolchain' / 'lib' / 'ld-linux-x86-64.so.2', LOADER, 0o755)
         self.write(self.kit / 'path' / 'rt', RT.format(kit=self.kit), 0o755)
         self.recorder(STORED)
         self.patience('1000')
@@ -1023,7 +1036,12 @@ class Scratch:
     def remake(self, script):
         """Has the recorder made of this script."""
         self.recorder(script)
-        shutil.rmtree(self.root / 'target', ignore_errors=True)
+        self.forget()
+
+    def forget(self):
+        """Nothing is proved and nothing is built."""
+        for folder in (self.root / 'build', *self.root.glob('crates/*/out')):
+            shutil.rmtree(folder, ignore_errors=True)
 
     def environment(self, **more):
         known = {name: value for name, value in os.environ.items() if name not in NOT_PASSED_ON}
@@ -1033,8 +1051,12 @@ class Scratch:
         words = [sys.executable, str(self.root / 'bin' / name), *map(str, options)]
         return subprocess.run(words, **{'capture_output': True, 'env': self.environment(), 'timeout': PATIENCE, **more})
 
+    def run_as_if(self, otherwise, name, *options):
+        words = [sys.executable, '-c', AS_IF.format(otherwise), str(self.root / 'bin' / name), *options]
+        return subprocess.run(words, env=self.environment(), capture_output=True, timeout=PATIENCE)
+
     def asked(self):
-        """The crates that rt was asked to check since the last time."""
+        """The crates that rt was asked to prove since the last time."""
         path = self.kit / 'asked'
         lines = path.read_text().split() if path.exists() else []
         path.unlink(missing_ok=True)
@@ -1075,7 +1097,7 @@ def files(report, scratch):
     example = (folder / 'example.in').read_bytes()
     crlf.write_bytes(example.replace(b'\n', b'\r\n'))
     scratch.asked()
-    (scratch.root / 'target' / 'seal' / 'recorder').unlink()
+    scratch.seal.unlink()
     fails(report, 'a folder', scratch.run('session', folder), 2, 'is a folder')
     fails(report, 'no file', scratch.run('session', folder / 'none.in'), 2, 'cannot read', 'No such file')
     fails(report, 'an empty file', scratch.run('session', folder / 'no-input.in'), 2, 'is empty')
@@ -1095,7 +1117,7 @@ def files(report, scratch):
 def ages(report, scratch):
     """A recorder is run at once while it is what its sources make, and is made anew as soon as it may not be."""
     scratch.asked()
-    source, made = scratch.root / 'crates' / 'base' / 'src' / 'lib.rt', scratch.root / 'target' / 'bin' / 'recorder'
+    source, made = scratch.root / 'crates' / 'base' / 'src' / 'lib.rt', scratch.made
 
     def runs(name, asked):
         done = scratch.run('session')
@@ -1112,13 +1134,19 @@ def ages(report, scratch):
     os.utime(source, (1, 1))
     runs('a source with an old time and another text', ['base', 'recorder'])
     made.write_text('#!/bin/sh\nexit 3\n')
-    runs('a recorder that was written over', ['base', 'recorder', 'recorder'])
+    runs('a recorder that was written over', ['base', 'recorder'])
     old = made.stat().st_mtime - 1_000
     made.write_text('#!/bin/sh\nexit 3\n')
     os.utime(made, (old, old))
-    runs('an old recorder put back', ['base', 'recorder', 'recorder'])
+    runs('an old recorder put back', ['base', 'recorder'])
     made.unlink()
-    runs('a recorder that is gone, where rt finds its sources unchanged', ['base', 'recorder', 'recorder'])
+    runs('a recorder that is gone, where rt finds its sources unchanged', ['base', 'recorder'])
+    scratch.flag('edited')
+    source.write_text('edited')
+    runs('a source that changes while rt builds', ['base', 'recorder'])
+    scratch.flag('edited', on=False)
+    runs('a recorder that rt cannot vouch for', ['base', 'recorder'])
+    runs('a recorder that rt vouches for', [])
     run_refuses(report, scratch, source)
 
 
@@ -1128,7 +1156,7 @@ def run_refuses(report, scratch, source):
     answers = (scratch.root / 'sessions' / 'example.out').read_bytes()
     for name in ('a sealed recorder', 'no seal, and no newer source'):
         same(report, f'bin/run with {name}', scratch.run('run', 'recorder', input=frames), answers)
-        (scratch.root / 'target' / 'seal' / 'recorder').unlink(missing_ok=True)
+        scratch.seal.unlink(missing_ok=True)
     os.utime(source, (time.time() + 100, time.time() + 100))
     done = scratch.run('run', 'recorder', input=frames)
     fails(report, 'bin/run and a newer source', done, 2, 'is older than crates/base/src/lib.rt', '--prove')
@@ -1190,7 +1218,7 @@ def wrong_answers(report, scratch):
 
 
 def kits(report, scratch):
-    """No rt, an rt that does not work, and a kit that has no loader, though a recorder is there."""
+    """No rt, an rt that does not work, and a machine that the kit makes no programs for, though a recorder is there."""
     report.check(scratch.run('session').returncode == 0, 'the scratch recorder is not there')
     none = scratch.environment(PATH=str(scratch.root))
     for name in ('session', 'run'):
@@ -1199,10 +1227,8 @@ def kits(report, scratch):
         scratch.flag('broken')
         fails(report, f'bin/{name} with a broken kit', scratch.run(name, *options), 2, 'Rattle kit', 'no toolchain')
         scratch.flag('broken', on=False)
-        loader = next(scratch.kit.rglob('ld-linux-x86-64.so.2'))
-        loader.rename(loader.with_name('gone'))
-        fails(report, f'bin/{name} with no loader', scratch.run(name, *options), 2, 'no loader')
-        loader.with_name('gone').rename(loader)
+        elsewhere = scratch.run_as_if(ANOTHER_PROCESSOR, name, *options)
+        fails(report, f'bin/{name} on another processor', elsewhere, 2, 'Rattle kit', 'this machine is aarch64')
 
 
 def calls_from_anywhere(report, scratch):
@@ -1259,23 +1285,22 @@ def closed_outputs(report, scratch, name, options):
 def read_only(report, scratch):
     """A checkout that cannot be written runs a recorder that is there, and says why it cannot make one."""
     scratch.run('session')
-    (scratch.root / 'target' / 'seal' / 'recorder').unlink()
-    words = [sys.executable, '-c', READ_ONLY, str(scratch.root / 'bin' / 'session')]
+    scratch.seal.unlink()
 
     def run():
-        return subprocess.run(words, env=scratch.environment(), capture_output=True, timeout=PATIENCE)
+        return scratch.run_as_if(READ_ONLY, 'session')
 
     done = run()
     ran = done.returncode == 0 and done.stdout.decode() == EXAMPLE
     ran = ran and done.stderr.count(b'\n') == 1 and b'cannot be written' in done.stderr
     report.check(ran, f'bin/session on a read-only checkout: {done.returncode}: {done.stderr!r}')
-    os.utime(scratch.root / 'target' / 'bin' / 'recorder', (1, 1))
+    os.utime(scratch.made, (1, 1))
     fails(report, 'a read-only checkout with an old recorder', run(), 2, 'is older than', 'cannot be written')
-    shutil.rmtree(scratch.root / 'target')
+    scratch.forget()
     fails(report, 'a read-only checkout with no recorder', run(), 2, 'is not built yet', 'cannot be written')
-    (scratch.root / 'target').write_text('in the way')
-    fails(report, 'a target that is no folder', scratch.run('session'), 2, 'target')
-    (scratch.root / 'target').unlink()
+    (scratch.root / 'build').write_text('in the way')
+    fails(report, 'a build that is no folder', scratch.run('session'), 2, 'build')
+    (scratch.root / 'build').unlink()
 
 
 def proofs(report, scratch):
@@ -1285,8 +1310,11 @@ def proofs(report, scratch):
     done = scratch.run('session')
     shown = re.fullmatch(PROVING, done.stderr.decode()) and done.stdout.decode() == EXAMPLE
     report.check(shown, f'bin/session shows of its proofs:\n{done.stderr.decode()}')
-    logged = (scratch.root / 'target' / 'log' / 'bin-session.log').read_text()
-    report.check(logged == 'rt: base proved\nrt: recorder proved\n', f'the log of the proofs has: {logged!r}')
+    logged, answers = scratch.log.read_text(), (scratch.root / 'sessions' / 'example.out').read_text()
+    report.check(logged == PROVED + answers, f'the log of the proofs has: {logged!r}')
+    scratch.seal.unlink()
+    found = scratch.run('session').stderr.decode().count(' .. found unchanged in ')
+    report.check(found == 2, f'bin/session finds {found} crates unchanged where 2 are')
     scratch.flag('slow', on=False)
     scratch.patience('1000')
     scratch.flag('fail')
@@ -1299,7 +1327,7 @@ def proofs(report, scratch):
     scratch.flag('full')
     fails(report, 'a disk that fills up', scratch.run('session'), 2, 'base was not proved', 'is full')
     scratch.flag('full', on=False)
-    with open(scratch.root / 'target' / 'log' / 'bin-session.log', 'ab') as log:
+    with open(scratch.log, 'ab') as log:
         fcntl.flock(log, fcntl.LOCK_EX)
         fails(report, 'two provers', scratch.run('session'), 2, 'another command is proving here')
     report.check(scratch.run('session').returncode == 0, 'bin/session does not mend itself after a failed proof')
@@ -1309,7 +1337,7 @@ def interrupted(report, scratch):
     """Ctrl-C, or a plea to end, ends all that was started too."""
     for number in (signal.SIGINT, signal.SIGTERM):
         scratch.flag('hang')
-        shutil.rmtree(scratch.root / 'target')
+        scratch.forget()
         (scratch.kit / 'child').unlink(missing_ok=True)
         words = [sys.executable, str(scratch.root / 'bin' / 'session')]
         process = subprocess.Popen(words, env=scratch.environment(), stdout=subprocess.PIPE, stderr=subprocess.PIPE,

@@ -1,13 +1,12 @@
 """The code that the kit's compiler makes of a crate: for x86-64, as the kit has it made, and for a controller.
 
 rt has one LLVM module compiled for a program or a static library, and keeps neither the module nor its code as text. So once
-the crate is proved in its own place, rt is asked again in a repository of links to it, and with a kit of links whose compiler
+the crate is proved in its own place, rt is asked again in a copy of the repository, and out of a kit of links whose compiler
 is a script that keeps the module and the words that it is given.
 """
 
-import os
-import platform
 import re
+import shutil
 import subprocess
 import tempfile
 from collections import Counter
@@ -16,8 +15,13 @@ from typing import NamedTuple
 
 import programs
 
-# What rt is asked for a crate, so that its module is compiled.
-PLACES, RECORDER = ('staticlib', 'places'), ('check', 'recorder')
+# What rt is asked in a crate's folder, so that its module is compiled.
+PLACES, RECORDER = ('lib', 'places'), ('run', 'recorder')
+# What a check reads of a crate and of those below it, and what it keeps of the crate itself.
+READ, KEPT = ('src', 'specs', 'proofs', 'out/rlib'), 'out/incremental'
+# rt finds the kit that it works with by where these lie themselves.
+RT = (Path('bin/rt'), Path('bin/rtlib.py'))
+CLANG = Path('toolchain/bin/clang')
 KEEPS = '''#!/bin/sh
 for word; do case $word in *.bc) cp "$word" '{folder}/module' ;; esac; done
 printf '%s\\n' "$@" >'{folder}/words'
@@ -69,6 +73,8 @@ NARROW = {
     '__aeabi_uidiv': 'a quotient of 32 bits', '__aeabi_uidivmod': 'a quotient of 32 bits, and its remainder',
     '__aeabi_memcpy': 'a copy of memory', '__aeabi_memclr': 'zeros into memory', '__aeabi_memset': 'a byte into memory',
     'read': 'the system\'s', 'write': 'the system\'s', 'rattle_errno': 'the kit\'s, in C',
+    '__sysv_signal': 'the system\'s, as it starts', '__x86_get_cpuid_feature_leaf': 'the system\'s, as it starts on x86-64',
+    '__write': 'the system\'s, where it cannot start',
 }
 
 
@@ -78,13 +84,13 @@ def module(asked):
     """The module that rt has compiled where it is asked this for a crate."""
     command, crate = asked
     programs.kit()  # says so where there is no rt
-    rt(programs.RECORDER_ROOT, 'check', crate)
+    rt('rt', programs.RECORDER_ROOT / 'crates' / crate, 'check')
     with tempfile.TemporaryDirectory() as name:
         folder = Path(name)
-        folder.chmod(0o755)  # rt runs a program as nobody
-        rt(repository(folder / 'repository', crate), command, crate, RATTLE_HOME=str(kit(folder / 'kit', folder)))
+        own = kit(folder / 'kit', folder)
+        rt(own / RT[0], repository(folder / 'repository', crate) / 'crates' / crate, command)
         if not (folder / 'module').is_file():
-            raise programs.Missing(f'rt {command} {crate} has no module compiled')
+            raise programs.Missing(f'rt {command} in crates/{crate} has no module compiled')
         text = clang('-Xclang', '-disable-llvm-passes', '-S', '-emit-llvm', '-x', 'ir', folder / 'module')
         return Module(text, compiling((folder / 'words').read_text().splitlines()))
 
@@ -96,37 +102,42 @@ def compiling(words):
 
 
 def repository(folder, crate):
-    """The repository once more, by links, with all proved but the crate."""
+    """The repository once more, with all proved but the crate; by copies, since rt takes no links among what it may write."""
     root = programs.RECORDER_ROOT.resolve()
-    (folder / 'target' / 'stamp').mkdir(parents=True)
-    for name in ('crates', 'crates.txt', 'target/rlib'):
-        (folder / name).symlink_to(root / name)
-    for stamp in (root / 'target' / 'stamp').iterdir():
-        if stamp.name != crate:
-            (folder / 'target' / 'stamp' / stamp.name).symlink_to(stamp)
+    folder.mkdir()
+    shutil.copy(root / 'crates.txt', folder)
+    for own in (root / 'crates').iterdir():
+        for part in (*READ, KEPT) if own.name == crate else READ:
+            if (own / part).is_dir():
+                shutil.copytree(own / part, folder / 'crates' / own.name / part)
     return folder
 
 
 def kit(folder, keep):
-    """The kit once more, by links, but for its compiler, which keeps what it is given."""
-    inner = Path('on') / platform.machine() / 'toolchain' / 'bin'
-    for depth in (*reversed(inner.parents), inner):
+    """The kit once more, by links, but for rt, and for its compiler, which keeps what it is given."""
+    apart = (*RT, CLANG)
+    for depth in sorted({depth for path in apart for depth in path.parents}):
         own = folder / depth
         own.mkdir()
         for path in (programs.kit() / depth).iterdir():
-            if not (inner / 'clang').is_relative_to(depth / path.name):
+            if not any(one.is_relative_to(depth / path.name) for one in apart):
                 (own / path.name).symlink_to(path)
-    script = folder / inner / 'clang'
-    script.write_text(KEEPS.format(folder=keep, compiler=programs.toolchain() / 'bin' / 'clang'))
+    for path in RT:
+        shutil.copy(programs.kit() / path, folder / path)
+    script = folder / CLANG
+    script.write_text(KEEPS.format(folder=keep, compiler=programs.kit() / CLANG))
     script.chmod(0o755)
     return folder
 
 
-def rt(folder, *words, **more):
-    done = subprocess.run(['rt', *words], cwd=folder, capture_output=True, text=True, env={**os.environ, **more})
+def rt(program, folder, word):
+    try:
+        done = subprocess.run([program, word], cwd=folder, stdin=subprocess.DEVNULL, capture_output=True, text=True)
+    except OSError as why:
+        raise programs.Missing(f'cannot ask rt in {folder}: {why.strerror}')
     if done.returncode != 0:
         said = (done.stdout + done.stderr).strip().splitlines()[-3:]
-        raise programs.Missing(f'rt {" ".join(words)} ended with {done.returncode}: {" / ".join(said)[:1000]}')
+        raise programs.Missing(f'rt {word} in {folder} ended with {done.returncode}: {" / ".join(said)[:1000]}')
 
 
 def clang(*words, text=None):
@@ -153,9 +164,9 @@ def code_of_c(text, target):
 def functions(text, target):
     found, own = {}, None
     for line in text.splitlines():
-        label = re.match(r'"?([A-Za-z_][\w:]*)"?:', line)
+        label = re.match(r'"([^"]+)":|([A-Za-z_]\w*):', line)
         if label:
-            own = found.setdefault(label[1], [])
+            own = found.setdefault(label[1] or label[2], [])
         elif own is not None and re.match(r'\t[a-z]', line):
             own.append(line.partition(TARGETS[target].comment)[0].strip().replace('\t', ' '))
     return found

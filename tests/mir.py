@@ -1,9 +1,10 @@
-"""Reads the MIR that `rt mir` prints: the sources as the compiler has typed them, which is what is proved and built."""
+"""Reads the MIR that stands in the libraries that rt builds of proved crates: the sources as the compiler has typed them, which is
+what is proved and built.
+"""
 
-import re
+import json
 from typing import NamedTuple
 
-WORDS = re.compile(r'"[^"]*"|[()]|[^\s()"]+')
 # What is looked for: operations that a processor may have no instruction for.
 COSTLY = ('mul', 'div', 'rem')
 
@@ -21,82 +22,88 @@ class Operation(NamedTuple):
         return f'{self.what} of {self.bits} bits in {self.function}'
 
 
-def read(text):
-    """The text as lists in lists, and words."""
-    whole = []
-    within = [whole]
-    for word in WORDS.findall(text):
-        if word == '(':
-            within.append([])
-            within[-2].append(within[-1])
-        elif word == ')':
-            within.pop()
-        else:
-            within[-1].append(word)
-    if len(within) != 1:
-        raise ValueError('the MIR does not end where it should')
-    return whole
-
-
 def nodes(tree, name):
-    """All lists that begin with this word, in the order of the text: they may stand deeper than Python calls."""
+    """All that stands under this name, in the order of the text: it may stand deeper than Python calls."""
     left = [tree]
     while left:
         node = left.pop()
-        if node[:1] == [name]:
-            yield node
-        left += reversed([part for part in node if isinstance(part, list)])
+        if isinstance(node, dict):
+            yield from (part for key, part in node.items() if key == name)
+            left += reversed(node.values())
+        elif isinstance(node, list):
+            left += reversed(node)
 
 
-def listed(node):
-    """The parts of a list that is built of `lcons`."""
-    while node != 'lnil':
-        _, part, node = node
-        yield part
+# ---- Functions
+
+def reached(library, crate):
+    """By name the functions of a crate and all that these reach in others; library answers where a crate's library stands, which has
+    the crate's own functions alone. Of an impl that is handed on, so that its functions can be called, each counts as reached."""
+    libraries, found = {}, {}
+
+    def functions(name):
+        own = name.partition('::')[0]
+        if own not in libraries:
+            libraries[own] = dict(json.loads((library(own) / 'toolchain' / 'mir.json').read_text()))
+        return libraries[own]
+
+    left = list(functions(crate))
+    while left:
+        name = left.pop()
+        if name not in found:
+            found[name] = functions(name)[name]
+            left += [called for called, _ in nodes(found[name]['body'], 'Fn')]
+            left += [part for impl, *_ in nodes(found[name]['body'], 'Impl') for part in parts(functions(impl), impl)]
+    return found
 
 
-def bodies(text):
-    """The name, the locals and the body of each function."""
-    for _, name, item, *_ in nodes(read(text), 'fn-def'):
-        *_, variables, body = item[:6]
-        yield name.strip('"'), [kind for _, kind, _ in listed(variables)], body
+def parts(functions, impl):
+    """The names of an impl's functions; some impls have none."""
+    for name, function in functions.items():
+        of = function['generics']['method_of']
+        if of and of.get('Impl', [None])[0] == impl:
+            yield name
 
 
-def operations(text):
+# ---- Operations
+
+def operations(functions):
     """Every product, quotient and remainder of each function."""
-    for function, kinds, body in bodies(text):
-        assigned = list(nodes(body, 'assign'))
-        for at, (_, place, value) in enumerate(assigned):
+    for name, function in functions.items():
+        assigned = list(nodes(function['body'], 'Assign'))
+        for at, (place, value) in enumerate(assigned):
             what = operator(value)
-            if any(costly in what.lower() for costly in COSTLY):
-                yield Operation(function, what, bits(kinds, place), brings_index(assigned[at:]))
+            if any(costly in what for costly in COSTLY):
+                yield Operation(name, what, bits(function['locals'], place), brings_index(assigned[at:]))
 
 
 def operator(value):
-    """What is done with two numbers: `mul`, or `floatMul`; nothing where a value is no such thing."""
-    if value[0] != 'op2':
+    """What is done with two numbers: `mul`, or `floatmul`; nothing where a value is no such thing."""
+    if 'Op2' not in value:
         return ''
-    return value[1] if isinstance(value[1], str) else value[1][0]
+    what = value['Op2'][0]
+    return (what if isinstance(what, str) else next(iter(what))).lower()
 
 
-def bits(kinds, place):
+def bits(variables, place):
     """Of how many bits the number at a place is; a result always goes to a local."""
-    _, number, within = place
-    kind = kinds[int(number)]
-    if within != 'lnil' or kind[0] != 'tyInt':
+    kind = variables[place['local']]['ty']
+    if place['steps'] or 'Int' not in kind:
         raise ValueError(f'a result goes to {place}, of which the width is not known')
-    return int(kind[1])
+    return kind['Int']
 
 
 def brings_index(assigned):
     """Whether the first of these is an index by the size of its element: with the address of an array after it or not, it is then
     added to an address, and an element of that size is read or written there."""
-    (_, place, value), *after = assigned
-    if after and after[0][2][0] == 'addrOf':
+    (place, value), *after = assigned
+    if after and 'AddrOf' in after[0][1]:
         after = after[1:]
-    if len(after) < 2 or operator(after[0][2]) != 'offset' or after[0][2][3] != ['copy', place]:
+    if len(after) < 2 or operator(after[0][1]) != 'offset' or after[0][1]['Op2'][2] != {'Copy': place}:
         return False
-    pointer = after[0][1][1]
-    within = [part for _, number, parts in nodes(after[1], 'place') if number == pointer for part in listed(parts)]
-    size = next((int(part[1][1]) // 8 for part in within if part[0] == 'deref' and part[1][0] == 'tyInt'), 1)
-    return operator(value) == 'mul' and size > 1 and value[3] == ['int', '64', str(size)]
+    pointer = after[0][0]['local']
+    written, read = after[1]
+    places = (written, *nodes(read, 'Copy'), *nodes(read, 'AddrOf'))
+    within = [step for one in places if one['local'] == pointer for step in one['steps']]
+    size = next((step['Deref']['Int'] // 8 for step in within if 'Deref' in step and 'Int' in step['Deref']), 1)
+    return operator(value) == 'mul' and size > 1 and value['Op2'][2] == {'Int': {'width': 64, 'value': size}}

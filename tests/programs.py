@@ -1,7 +1,7 @@
 """Finds, builds and runs the programs; nothing else in tests/ or bench/ knows how.
 
-The recorder and the probe are built by `rt check`, for x86-64, and stand under target/bin. They run as the kit
-itself runs a program: under the kit's loader and C library, and on another processor under the kit's emulator.
+The recorder and the probe are built by `rt run`, for x86-64, and stand as crates/NAME/out/NAME. They run as the kit
+itself runs a program: as they are, with the C library of this machine.
 The second program is plain C, built for this machine by second/build.
 
 RECORDER_ROOT and SECOND_ROOT name other repositories to take the programs from.
@@ -22,6 +22,7 @@ BUILD = ROOT / 'build'
 
 RECORDER, SECOND, SANITIZED = 'recorder', 'second', 'second-sanitize'
 NAMES = (RECORDER, SECOND, SANITIZED)
+PROCESSOR = 'x86_64'  # the one that the kit makes programs for
 
 
 class Missing(Exception):
@@ -32,58 +33,48 @@ class Missing(Exception):
 
 @lru_cache(maxsize=None)
 def kit():
-    """The kit's folder: `rt doc` names a page two folders below it."""
+    """The kit's folder: `rt doc` names a page in it."""
     if shutil.which('rt') is None:
-        raise Missing('rt is not on the path: the Rattle kit proves, builds and runs the programs')
+        raise Missing('rt is not on the path: the Rattle kit proves and builds the programs')
     asked = subprocess.run(['rt', 'doc'], capture_output=True, text=True)
     if asked.returncode != 0:
         raise Missing(f'the Rattle kit does not work: rt doc ended with {asked.returncode}: {asked.stderr.strip()}')
-    return Path(asked.stdout.strip()).parent.parent
-
-
-def kit_here():
-    """What the kit has for this processor."""
-    return kit() / 'on' / platform.machine()
+    return Path(asked.stdout.strip()).parent
 
 
 def toolchain():
-    return kit_here() / 'toolchain'
+    return kit() / 'toolchain'
 
 
-def emulator():
-    """The kit has one exactly where the processor is not x86-64."""
-    path = toolchain() / 'bin' / 'qemu-x86_64'
-    return path if os.access(path, os.X_OK) else None
-
-
-def under_kit(path):
-    """The words that run an x86-64 program that is linked with the kit's C library."""
-    library = toolchain() / 'lib'
-    if not (library / 'ld-linux-x86-64.so.2').is_file():
-        raise Missing(f'the Rattle kit at {kit()} has no loader for this machine, {platform.machine()}')
-    start = [emulator()] if emulator() else []
-    return [str(word) for word in (*start, library / 'ld-linux-x86-64.so.2', '--library-path', library, path)]
+def made_by_kit(path):
+    """The words that run a program that the kit has linked."""
+    if platform.machine() != PROCESSOR:
+        raise Missing(f'the Rattle kit makes programs for {PROCESSOR}, and this machine is {platform.machine()}')
+    return [str(path)]
 
 
 def kit_program(name):
-    path = RECORDER_ROOT / 'target' / 'bin' / name
+    path = RECORDER_ROOT / 'crates' / name / 'out' / name
     if not path.is_file():
-        raise Missing(f'{name} is not built: `rt check {name}` writes target/bin/{name}')
-    return under_kit(path)
+        raise Missing(f'{name} is not built: `rt run` in crates/{name} writes crates/{name}/out/{name}')
+    return made_by_kit(path)
 
 
 @lru_cache(maxsize=None)
 def static_library(name):
-    """target/staticlib/libNAME.a, proved and built anew once for each run."""
-    built = subprocess.run(['rt', 'staticlib', name], cwd=RECORDER_ROOT, capture_output=True, text=True)
-    path = RECORDER_ROOT / 'target' / 'staticlib' / f'lib{name}.a'
+    """crates/NAME/out/libNAME.a, proved and built anew once for each run."""
+    folder = RECORDER_ROOT / 'crates' / name
+    if not folder.is_dir():
+        raise Missing(f'crates/{name} is not there')
+    built = subprocess.run(['rt', 'lib'], cwd=folder, capture_output=True, text=True)
+    path = folder / 'out' / f'lib{name}.a'
     if built.returncode != 0 or not path.is_file():
-        raise Missing(f'rt staticlib {name} ended with {built.returncode}: {(built.stdout + built.stderr).strip()[-1000:]}')
+        raise Missing(f'rt lib in crates/{name} ended with {built.returncode}: {(built.stdout + built.stderr).strip()[-1000:]}')
     return path
 
 
 def environment():
-    """The emulator takes orders from QEMU_ variables; a run must not hang on them."""
+    """Where the system runs programs under an emulator, that takes orders from QEMU_ variables; a run must not hang on them."""
     return {name: value for name, value in os.environ.items() if not name.startswith('QEMU_')}
 
 
@@ -115,11 +106,11 @@ def mistakes():
     return range(1, int(told[1]) + 1)
 
 
-# ---- C programs for the kit's loader and C library
+# ---- C programs made by the kit's compiler
 
 @lru_cache(maxsize=None)
 def c_under_kit(name, sources, flags=(), libraries=()):
-    """The words that run build/kit-NAME as the recorder is run: built by the kit's compiler, for x86-64, with its C library.
+    """The words that run build/kit-NAME as the recorder is run: built by the kit's compiler, for x86-64, and linked as it is.
 
     The kit has no headers, so they are those of this machine's compiler; what they declare is the same.
     """
@@ -134,8 +125,8 @@ def c_under_kit(name, sources, flags=(), libraries=()):
     objects = [path.with_name(f'{path.name}-{source.stem}.o') for source in sources]
     for source, made in zip(sources, objects):
         build_step([*clang, '-c', source, '-o', made])
-    build_step([kit_here() / 'bin' / 'rattle-link', '--target', target, '--toolchain', toolchain(), '-o', path, *objects, *libraries])
-    return under_kit(path)
+    build_step([kit() / 'bin' / 'rattle-link', '--target', target, '--toolchain', toolchain(), '-o', path, *objects, *libraries])
+    return made_by_kit(path)
 
 
 def header_folders():

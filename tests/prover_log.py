@@ -26,16 +26,15 @@ PARTS = re.compile(r'(expected|as printed|computed).*(\bLts\.Closed|\bNeed-)', r
 # Something that the proof names is gone. A part that is gone moves the numbers of those after it, so the ones before it
 # may fail for that alone: wherever such an error stands, none of the others shows anything.
 GONE = re.compile(r'has no (field |function )?`|is not in scope|is not a field of ')
-FOLLOWS = ' was not admitted (it has holes or undetermined implicits, or was rejected), so this cannot be checked'
-SEARCHED = '`search` does not close'
-# A place is told from the edit's copy of the crate on: what stands above it may be named in any way.
-ERROR = re.compile(r'(?m)^/.*?/must-fail/[^/\n]+/[^/\n]+/(\S+): error(?:\[\S+\])?: (?:`([^`\n]*)`: )?(.*(?:\n  .*)*)')
+FOLLOWS = re.compile(r'\d+ declarations? that depends? on ')
+SEARCHED = '`search` did not prove '
+ERROR = re.compile(r'(?m)^(?:\./)?(\S+): error(?:\[\S+\])?: (?:`([^`\n]*)`: )?(.*(?:\n  .*)*)')
 
 
 def errors(log):
     """The errors that do not merely follow from another, in the order of the log."""
     found = (Error(*match.groups()) for match in ERROR.finditer(log))
-    return [error for error in found if not error.text.split('\n')[0].endswith(FOLLOWS)]
+    return [error for error in found if not FOLLOWS.match(error.text)]
 
 
 def of_a_fact(error):
@@ -56,9 +55,15 @@ def refusal_of_function(log, crate, function):
     if verdict.group(1).startswith('proved'):
         return 'it is proved'
     found = errors(log)
-    proof = f'proofs/{function.replace("::", "/")}/Proof.antt'
-    own = [error for error in found if error.place.split(':')[0] == proof]
+    own = [error for error in found if error.place.split(':')[0] in proofs_of(function)]
     return unread(found) or first_fact(own, SEARCHED in verdict.group(1))
+
+
+def proofs_of(function):
+    """What a function's proof is written in; where functions call one another, in a folder with a plus before its name."""
+    *modules, name = function.split('::')
+    folders = ('/'.join(('proofs', *modules, folder)) for folder in (name, f'+{name}'))
+    return [f'{folder}/{file}.antt' for folder in folders for file in ('Answers', 'Invariants', 'Proof')]
 
 
 def refusal_of_definition(log, file, declaration):

@@ -12,12 +12,12 @@ from unseen import Reading
 
 TABLE = Path(__file__).resolve().parent.parent / 'crates' / 'rules' / 'proofs' / 'UnseenMet.antt'
 ROWS = 21
-TYPES = {'csp1': model.CSP_1, 'csp2': model.CSP_2, 'cspF': model.CSP_F, 'cspT': model.CSP_T, 'cspV': model.CSP_V}
+TYPES = {'csp1': model.CSP_1, 'csp2': model.CSP_2, 'csp_f': model.CSP_F, 'csp_t': model.CSP_T, 'csp_v': model.CSP_V}
 FRAMES = {'UnitOf': 2, 'Result': 3, 'Interrupt': 4, 'CheckFind': 5, 'Tick': 6, 'Take': 7}
 # S of every plan in the table.
 S = 9
-PLAN = r'planOf (\w+) (\d+) (\d+) (\d+)'
-ROW = re.compile(rf'(?m)^    (?:∷ )?(row|rowOn) \({PLAN}\) \((.*) ∷ \[\]\) (\d+) (true|false) (\[\]|\([^()]*\)) (\d+) (\d+)$')
+PLAN = r'plan_of (\w+) (\d+) (\d+) (\d+)'
+ROW = re.compile(rf'(?m)^    (?:∷ )?(row|row_on) \({PLAN}\) \((.*) ∷ \[\]\) (\d+) (true|false) (\[\]|\([^()]*\)) (\d+) (\d+)$')
 CHANGE = re.compile(rf'Change \({PLAN}\) (true|false)')
 
 
@@ -43,7 +43,7 @@ def heard(type, numbers, calls):
         reading.hear(frame, tuple(program.answer(line.encode())))
     both = reading.last, reading.owed, reading.run, reading.need
     to_come = 0 if reading.watched is None else reading.plan.i - reading.watched
-    return {'row': (*both, reading.row if reading.sampling() else 0), 'rowOn': (*both, to_come)}
+    return {'row': (*both, reading.row if reading.sampling() else 0), 'row_on': (*both, to_come)}
 
 
 def frame_of(call):

@@ -1,8 +1,9 @@
 """Is a program what its sources make? Where it is not, rt proves and builds it, with a line for each crate.
 
-rt says by the contents of the files whether a crate is proved, and it does not look at the program. So once rt has
-proved a program, a seal under target/ holds two digests: of the sources (and the kit), and of the program. While both
-hold, the program runs at once. Without a seal the times of the files decide, which is what an outsider can see too.
+rt says by the contents of the files whether a crate is proved and a program is the one that it made of them, and takes
+a while for each crate to say so. So once rt has proved a program, a seal under build/ holds two digests: of the sources
+(and the kit), and of the program. While both hold, the program runs at once. Without a seal the times of the files
+decide, which is what an outsider can see too.
 """
 
 import errno
@@ -22,27 +23,27 @@ import programs
 from lib.command import FAILED, Fault, Unbroken, say
 
 PARTS = ('src', 'specs', 'proofs')
-LOG = 'target/log/bin-session.log'
+LOG = 'build/log/bin-session.log'
 # Seconds that a proof takes on two idle cores: for a reader who waits, so no more than a hint.
 SECONDS = {
     'rules': 8, 'draw': 3, 'tables': 7, 'record': 16, 'station': 80, 'frames': 50, 'recorder': 30, 'probe': 40, 'rooms': 12,
 }
 AT_ONCE = 1.5   # seconds in which rt says that nothing has changed, so that no line need be shown
-ONE_TIME = 30   # seconds that may lie between a program and rt's stamp of it
 PATIENCE = 5    # seconds that a process has to end in before it is killed
 TAIL = 12
 LITTLE = 1 << 16
 
 
 class Program:
-    """A program under target/bin, and the files that it is made of."""
+    """A program of crates/, and the files that it is made of."""
 
     def __init__(self, name):
         self.name = name
         self.root = programs.RECORDER_ROOT.resolve()
-        self.path = self.root / 'target' / 'bin' / name
-        self.seal = self.root / 'target' / 'seal' / name
-        self.stamp = self.root / 'target' / 'stamp' / name  # rt's own: what it has proved
+        self.shown = f'crates/{name}/out/{name}'
+        self.path = self.root / self.shown
+        self.seal = self.root / 'build' / 'seal' / name
+        self.stamp = self.path.with_name(f'{name}.stamp')  # rt's own: what it has proved, and the program that it made of that
 
     def crates(self):
         """The crates that the program stands on, each behind those that it stands on, itself the last."""
@@ -50,7 +51,7 @@ class Program:
         if not listed.is_file():
             return []  # another repository, of programs alone: there is no source to be older than
         lines = (line.partition('#')[0].partition(':') for line in listed.read_text().splitlines())
-        needs = {name.strip(): rest.split() for name, colon, rest in lines if colon}
+        needs = {name.split()[0]: rest.split() for name, colon, rest in lines if name.strip() and colon}
         found = []
 
         def visit(name):
@@ -90,22 +91,20 @@ class Program:
     def fault(self):
         """Why the program is not what its sources make, or None: by a seal of this very program, else by its age."""
         if not self.path.is_file():
-            return f'target/bin/{self.name} is not built yet'
+            return f'{self.shown} is not built yet'
         if self.seal.is_file():
             sources, program = self.digests().split()
             known = self.seal.read_text().split()
             if known[1:] == [program]:
-                return None if known[0] == sources else f'target/bin/{self.name} was made of other sources than these'
+                return None if known[0] == sources else f'{self.shown} was made of other sources than these'
         newest = self.newest()
         if newest and newest.stat().st_mtime_ns > self.path.stat().st_mtime_ns:
-            return f'target/bin/{self.name} is older than {newest.relative_to(self.root)}'
+            return f'{self.shown} is older than {newest.relative_to(self.root)}'
         return None
 
-    def as_rt_left_it(self):
-        """Whether the program is of one time with rt's stamp, which rt writes as soon as it has made the program."""
-        if not (self.path.is_file() and self.stamp.is_file()):
-            return False
-        return 0 <= self.stamp.stat().st_mtime - self.path.stat().st_mtime <= ONE_TIME
+    def written(self):
+        """The folders that proving it writes to."""
+        return [self.root / 'build', *(self.root / 'crates' / crate / 'out' for crate in self.crates())]
 
 
 # ---- Proving
@@ -123,8 +122,8 @@ def ready(name, command):
 
 
 def prove(program, command):
-    fault, target = program.fault(), program.root / 'target'
-    if not os.access(target if target.exists() else program.root, os.W_OK):
+    fault = program.fault()
+    if not all(writable(folder) for folder in program.written()):
         if fault:
             raise Fault(f'{fault}, and {program.root} cannot be written: prove it where it can')
         say(command, 'the checkout cannot be written, so rt was not asked; the recorder is no older than its sources')
@@ -139,12 +138,19 @@ def prove(program, command):
     seal(program)
 
 
+def writable(folder):
+    """Whether a folder can be written, or made where it is not there."""
+    while not folder.exists():
+        folder = folder.parent
+    return os.access(folder, os.W_OK)
+
+
 def full(folder):
     return shutil.disk_usage(folder).free < LITTLE
 
 
 def alone(log):
-    """Two commands must not prove into one target; the log is theirs who hold it, and starts anew."""
+    """Two commands must not prove in one place; the log is theirs who hold it, and starts anew."""
     try:
         fcntl.flock(log, fcntl.LOCK_EX | fcntl.LOCK_NB)
     except BlockingIOError:
@@ -153,8 +159,10 @@ def alone(log):
 
 
 def seal(program):
-    program.seal.parent.mkdir(exist_ok=True)
-    program.seal.write_text(program.digests())
+    """rt leaves no stamp where a source has changed while it built: then this is not known, and rt is asked again."""
+    if program.stamp.is_file():
+        program.seal.parent.mkdir(exist_ok=True)
+        program.seal.write_text(program.digests())
 
 
 class Proof:
@@ -167,28 +175,21 @@ class Proof:
         self.open_line = False
 
     def run(self, fault):
-        before = self.made()
-        self.why = fault or f'target/bin/{self.program.name} is not known to be proved'
+        self.why = fault or f'{self.program.shown} is not known to be proved'
         for at, crate in enumerate(self.crates, 1):
             self.check(at, crate)
-        if self.made() == before and not self.program.as_rt_left_it():
-            # rt finds the sources proved, but the program there is not the one that it made of them
-            self.program.stamp.unlink(missing_ok=True)
-            self.check(len(self.crates), self.program.name)
         if not self.program.path.is_file():
-            raise Fault(f'rt says that {self.program.name} is proved, and target/bin/{self.program.name} is not there', FAILED)
-
-    def made(self):
-        """What changes when the program is made anew."""
-        path = self.program.path
-        return (path.stat().st_ino, path.stat().st_mtime_ns) if path.is_file() else None
+            raise Fault(f'rt says that {self.program.name} is proved, and {self.program.shown} is not there', FAILED)
 
     def check(self, at, crate):
-        """Has rt check one crate; what it stands on is checked already."""
+        """Has rt prove and build one crate; what it stands on is proved already. A program is also run, on no input."""
         began, process = time.monotonic(), None
+        folder = self.program.root / 'crates' / crate
+        verb = 'run' if (folder / 'src' / 'main.rt').is_file() else 'lib'
+        self.logged = os.path.getsize(self.log.name)
         try:
             with Unbroken():
-                process = started(['rt', 'check', crate], self.program.root, self.log)
+                process = started(['rt', verb], folder, self.log)
             status = waited(process, AT_ONCE)
             if status is None:
                 self.show(at, crate)
@@ -199,15 +200,24 @@ class Proof:
                 end(process)
             self.end_line('\n')
             raise
-        if status != 0:
+        if not self.proved(crate, status):
             raise self.failed(crate, status)
 
+    def proved(self, crate, status):
+        """Once rt has begun to run a program, it has proved and built it, and the status is the program's own."""
+        return status == 0 or self.told(f'rt: running out/{crate};')
+
     def outcome(self, crate, status):
-        """rt takes its time on a busy machine, also where nothing has changed, and then says so."""
-        if status != 0:
+        """rt takes its time on a busy machine, also where nothing has changed and it proves nothing."""
+        if not self.proved(crate, status):
             return 'NOT PROVED'
-        unchanged = any(line.startswith(f'rt: {crate} proved (unchanged') for line in self.last_lines())
-        return 'found unchanged' if unchanged else 'proved'
+        return 'proved' if self.told('logic=proved ') else 'found unchanged'
+
+    def told(self, beginning):
+        """Whether rt has told so of this crate."""
+        with open(self.log.name, 'rb') as log:
+            log.seek(self.logged)
+            return any(line.startswith(beginning.encode()) for line in log)
 
     def show(self, at, crate):
         if not self.said:
@@ -249,7 +259,7 @@ def started(words, folder, log):
         streams = {'stdin': subprocess.DEVNULL, 'stdout': log, 'stderr': subprocess.STDOUT}
         return subprocess.Popen(words, cwd=folder, start_new_session=True, **streams)
     except OSError as why:
-        raise Fault(f'cannot start {words[0]}: {why.strerror}')
+        raise Fault(f'cannot start {words[0]} in {folder}: {why.strerror}')
 
 
 def waited(process, seconds):

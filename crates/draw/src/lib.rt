@@ -2,10 +2,13 @@
 // more than 32 bits: on a controller that would be a routine of its own (document 02, W3).
 #![tactic(auto)]
 
+mod pairs;
+
 ghost use Rattle.std.specs.Prelude.{◌≡◌, ◌+◌, ◌*◌, ◌/◌, ◌%◌, ◌^◌, ◌≤◌};
 ghost use Rattle.rules.specs.Draw.{step, place};
 ghost use Rattle.rules.specs.Sampling.{block_length, next_place};
 
+pub use pairs::{applied, composed, pair_of, skip};
 use rules::Plan;
 
 // L, of any n and level.

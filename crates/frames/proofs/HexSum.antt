@@ -12,44 +12,8 @@ use Rattle.rules.specs.Tests.{◌and◌}
 use Rattle.rules.specs.Frames.{digit, joined, hex, no_number}
 use Rattle.frames.specs.Weights.{weight, sum, limited, Weighs}
 
-false_true : false ≡ true → ⊥
-false_true e = let z : ◌≡◌ {A = ℕ} 0 1 = cc in omega arith
-
--- both tests of a range
-pub in_range_lem : (low b high : ℕ) → leb low b and ltb b high ≡ true → (low ≤ b) × (b < high)
-unfolding ◌and◌
-in_range_lem low b high e = go (dec_lt b low) (dec_lt b high)
-  where
-    go : Dec (b < low) → Dec (b < high) → (low ≤ b) × (b < high)
-    go (yes h) i = absurd (false_true (simp (lt-leb low b h) at e))
-    go (no h) (yes i) = (omega arith, i)
-    go (no h) (no i) = absurd (false_true (simp (le-leb low b (omega arith), le-ltb b high (omega arith)) at e))
-
--- the weights of the digits
+-- a weight is at most that of a byte that is no digit
 module _ (b : ℕ) where
-  pub decimal : 48 ≤ b → b < 58 → b - 48 ≡ weight b
-  unfolding weight digit
-  decimal l h = let k : b - 48 < 16 = omega arith in simp (le-ltb b 48 l, lt-ltb b 58 h, lt-ltb (b - 48) 16 k)
-
-  pub letter : 65 ≤ b → b < 71 → b - 55 ≡ weight b
-  unfolding weight digit
-  letter l h =
-      let k : b - 55 < 16 = omega arith in let m : 48 ≤ b = omega arith in let n : 58 ≤ b = omega arith in
-      simp (le-ltb b 48 m, le-ltb b 58 n, le-ltb b 65 l, lt-ltb b 71 h, lt-ltb (b - 55) 16 k)
-
-  -- a byte of neither range is no digit
-  pub neither : leb 48 b and ltb b 58 ≡ false → leb 65 b and ltb b 71 ≡ false → no_number ≡ weight b
-  unfolding weight digit ◌and◌
-  neither d l = go (dec_lt b 48) (dec_lt b 58) (dec_lt b 65) (dec_lt b 71)
-    where
-      go : Dec (b < 48) → Dec (b < 58) → Dec (b < 65) → Dec (b < 71) → no_number ≡ weight b
-      go (yes h) i j k = simp (lt-ltb b 48 h)
-      go (no h) (yes i) j k = absurd (false_true (sym (simp (le-leb 48 b (omega arith), lt-ltb b 58 i) at d)))
-      go (no h) (no i) (yes j) k = simp (le-ltb b 48 (omega arith), le-ltb b 58 (omega arith), lt-ltb b 65 j)
-      go (no h) (no i) (no j) (yes k) = absurd (false_true (sym (simp (le-leb 65 b (omega arith), lt-ltb b 71 k) at l)))
-      go (no h) (no i) (no j) (no k) =
-          simp (le-ltb b 48 (omega arith), le-ltb b 58 (omega arith), le-ltb b 65 (omega arith), le-ltb b 71 (omega arith))
-
   most : weight b ≤ 2 ^ 32
   unfolding weight
   most = go (dec_lt (digit b) 16)

@@ -6,6 +6,7 @@ ghost use Rattle.frames.specs.Weights.{weight, sum, limited, Weighs};
 // What a byte that is no digit weighs: more than any eight digits.
 pub const NONE: u64 = 4294967296;
 
+#[tactic(auto, using(std::proofs::lemmas::Bool::Decides::nat_tests), unfolding(crate::specs::Weights::weight, rules::specs::Frames::digit))]
 fn weight(b: u8) -> u64
     ensures { (result ≡ weight b) × (result ≤ 2 ^ 32) }
 {
@@ -30,6 +31,7 @@ pub fn fill(weights: &mut [u64])
     }
 }
 
+#[tactic(auto, using(crate::proofs::HexSum::weighs_at))]
 fn weighed(weights: &[u64], b: u8) -> u64
     requires { Weighs weights.now }
     ensures { (result ≡ weight b) × (result ≤ 2 ^ 32) }
@@ -38,6 +40,7 @@ fn weighed(weights: &[u64], b: u8) -> u64
 }
 
 // Two and eight digits from an index on, summed with no test between them.
+#[tactic(auto, unfolding(crate::specs::Weights::sum))]
 fn two(weights: &[u64], line: &[u8], from: usize) -> u64
     requires { Weighs weights.now × (from + 2 ≤ length line.now) }
     ensures { result ≡ sum line.now from 2 }
@@ -45,6 +48,7 @@ fn two(weights: &[u64], line: &[u8], from: usize) -> u64
     weighed(weights, line[from]) * 16 + weighed(weights, line[from + 1])
 }
 
+#[tactic(auto, unfolding(crate::specs::Weights::sum))]
 fn eight(weights: &[u64], line: &[u8], from: usize) -> u64
     requires { Weighs weights.now × (from + 8 ≤ length line.now) }
     ensures { result ≡ sum line.now from 8 }
@@ -60,6 +64,7 @@ fn eight(weights: &[u64], line: &[u8], from: usize) -> u64
     a * 268435456 + b * 16777216 + c * 1048576 + d * 65536 + e * 4096 + f * 256 + g * 16 + h
 }
 
+#[tactic(auto, using(std::proofs::lemmas::Bool::Decides::nat_tests), unfolding(crate::specs::Weights::limited))]
 fn limited(v: u64) -> u64
     ensures { result ≡ limited v }
 {
@@ -67,6 +72,7 @@ fn limited(v: u64) -> u64
 }
 
 // The number of two and of eight digits, or 2^32.
+#[tactic(auto, using(crate::proofs::HexSum::hex_sum))]
 pub fn hex2(weights: &[u64], line: &[u8], from: usize) -> u64
     requires { Weighs weights.now × (from + 2 ≤ length line.now) }
     ensures { result ≡ hex line.now from 2 }
@@ -74,6 +80,7 @@ pub fn hex2(weights: &[u64], line: &[u8], from: usize) -> u64
     limited(two(weights, line, from))
 }
 
+#[tactic(auto, using(crate::proofs::HexSum::hex_sum))]
 pub fn hex8(weights: &[u64], line: &[u8], from: usize) -> u64
     requires { Weighs weights.now × (from + 8 ≤ length line.now) }
     ensures { result ≡ hex line.now from 8 }

@@ -60,6 +60,7 @@ pub fn answer_values(a: Answer) -> Values
     }
 }
 
+#[tactic(auto, unfolding(rules::specs::Frames::printed))]
 fn printed(v: Values) -> [u8; 33]
     ensures { result ≡ printed v }
 {
@@ -77,18 +78,21 @@ fn printed(v: Values) -> [u8; 33]
 
 // The line of an answer that is done: most answers are this line or differ from it in a digit or two, and nothing more is computed for
 // them.
+#[tactic(auto, unfolding(rules::specs::Frames::printed))]
 fn done_line() -> [u8; 33]
     ensures { result ≡ printed (values 0 0 0 0 0) }
 {
     *b"00 00 00000000 00000000 00000000\n"
 }
 
+#[tactic(auto, unfolding(rules::specs::Frames::printed))]
 fn inspect_line() -> [u8; 33]
     ensures { result ≡ printed (values 0 0 0 0 1) }
 {
     *b"00 00 00000000 00000000 00000001\n"
 }
 
+#[tactic(auto, unfolding(rules::specs::Frames::printed))]
 fn refusal_line(r: Refusal) -> [u8; 33]
     ensures { result ≡ answer_line (Answer.Refused r) }
 {
@@ -106,6 +110,7 @@ pub fn answer_line(a: Answer) -> [u8; 33]
 }
 
 // A line put at an index.
+#[tactic(auto, using(std::proofs::lemmas::List::Edits::paste_more))]
 pub fn put_line(out: &mut [u8], at: usize, line: [u8; 33])
     requires { at + 33 ≤ length out.old }
     ensures { out.new ≡ paste out.old at line 33 }

@@ -7,6 +7,7 @@ use crate::digits;
 use crate::digits::NONE;
 use rules::{Call, Frame, Optional, Plan, Reading};
 
+#[tactic(auto, using(std::proofs::lemmas::Bool::Decides::nat_tests), unfolding(rules::specs::Frames::spaced))]
 fn spaced(space: u8, v: u64) -> u64
     ensures { result ≡ spaced space v }
 {
@@ -22,6 +23,7 @@ fn word(weights: &[u64], line: &[u8], j: usize) -> u64
     spaced(line[at], digits::hex8(weights, line, 3 + 9 * j))
 }
 
+#[tactic(auto, using(std::proofs::lemmas::Bool::Decides::nat_tests), unfolding(rules::specs::Frames::bare_frame))]
 fn bare_frame(code: u64) -> Reading
     ensures { result ≡ bare_frame code }
 {
@@ -40,6 +42,7 @@ fn bare_frame(code: u64) -> Reading
     Reading::Bad
 }
 
+#[tactic(auto, using(std::proofs::lemmas::Bool::Decides::nat_tests), unfolding(rules::specs::Frames::one_word_frame, rules::specs::Frames::is_word))]
 fn one_word_frame(code: u64, a: u64) -> Reading
     ensures { result ≡ one_word_frame code a }
 {
@@ -58,6 +61,7 @@ fn one_word_frame(code: u64, a: u64) -> Reading
     Reading::Bad
 }
 
+#[tactic(auto, using(std::proofs::lemmas::Bool::Decides::nat_tests, crate::proofs::Tests::both), unfolding(rules::specs::Frames::table_frame, rules::specs::Frames::is_word))]
 fn table_frame(code: u64, kind: u64, letter: u64, aql: u64, period: u64, seed: Optional) -> Reading
     ensures { result ≡ table_frame code kind letter aql period seed }
 {
@@ -85,6 +89,7 @@ fn table_frame(code: u64, kind: u64, letter: u64, aql: u64, period: u64, seed: O
     })
 }
 
+#[tactic(auto, using(std::proofs::lemmas::Bool::Decides::nat_tests), unfolding(rules::specs::Frames::seeded_frame, rules::specs::Frames::is_word))]
 fn seeded_frame(code: u64, kind: u64, letter: u64, aql: u64, period: u64, seed: u64) -> Reading
     ensures { result ≡ seeded_frame code kind letter aql period seed }
 {
@@ -96,6 +101,7 @@ fn seeded_frame(code: u64, kind: u64, letter: u64, aql: u64, period: u64, seed: 
 }
 
 // A plan and a seed, or a plan and 0 or 1, on demand.
+#[tactic(auto, using(std::proofs::lemmas::Bool::Decides::nat_tests, crate::proofs::Tests::both), unfolding(rules::specs::Frames::plan_frame))]
 fn plan_frame(code: u64, plan: Plan, last: u32) -> Reading
     ensures { result ≡ plan_frame code plan last }
 {
@@ -114,6 +120,7 @@ fn plan_frame(code: u64, plan: Plan, last: u32) -> Reading
     Reading::Bad
 }
 
+#[tactic(auto, using(std::proofs::lemmas::Bool::Decides::nat_tests, crate::proofs::Tests::both), unfolding(rules::specs::Frames::seven_word_frame, rules::specs::Frames::is_word))]
 fn seven_word_frame(
     code: u64,
     kind: u64,
@@ -159,6 +166,7 @@ fn seven_word_frame(
 }
 
 // A frame of four words or more.
+#[tactic(auto, using(std::proofs::lemmas::Bool::Decides::nat_tests), unfolding(rules::specs::Frames::frame_of))]
 fn longer_frame(weights: &[u64], line: &[u8]) -> Reading
     requires { Weighs weights.now × (length line.now ≡ 2 → ⊥) × (length line.now ≡ 11 → ⊥) }
     ensures { result ≡ frame_of line.now }
@@ -201,6 +209,7 @@ fn longer_frame(weights: &[u64], line: &[u8]) -> Reading
 
 // The frame that a line is, its line feed left off: that it has 11 characters is tested first, since most have. No frame has over 80,
 // so that a longer line needs no test of its own.
+#[tactic(auto, using(std::proofs::lemmas::Bool::Decides::nat_tests), unfolding(rules::specs::Frames::frame_of, rules::specs::Frames::read_line))]
 pub fn read_line(weights: &[u64], line: &[u8]) -> Reading
     requires { Weighs weights.now }
     ensures { result ≡ read_line line.now }

@@ -80,6 +80,7 @@ fn refused_reply(s: Standing, r: Refusal, out: &mut [u8], at: usize) -> Standing
 }
 
 // A station number before the open; whatever the queue holds, it stays.
+#[tactic(auto, using(std::proofs::lemmas::Bool::Decides::nat_tests, crate::proofs::Tests::both))]
 fn number_reply(s: Standing, number: u32, out: &mut [u8], at: usize) -> Standing
     requires { at + 33 ≤ length out.old }
     ensures { (queue : List ℕ) → Gives (number_reply (within 1 number 65535) (session_of s queue) number) result queue out.old at out.new }

@@ -1,7 +1,7 @@
 // Document 01, "Plan numbers" and "A sound record": total tests of a plan and of a record. They go by the type of plan and
 // return early where one fails. Every call tests the record, and the record is sound: it takes none of these returns and
 // makes the tests of its own type alone, which is fewer instructions than all of them joined without a branch.
-#![tactic(auto)]
+#![tactic(auto, using(crate::proofs::Laws::as_tests))]
 
 ghost use Rattle.std.specs.Prelude.{◌≡◌, not, ◌+◌, ◌≤◌, eqb};
 ghost use Rattle.rules.specs.Tests.{pick, within, ◌and◌};
@@ -34,6 +34,7 @@ fn common_in_range(p: Plan) -> bool
 }
 
 // Is every plan number in its range?
+#[tactic(auto, using(crate::proofs::Laws::as_tests, crate::proofs::Laws::known_tests, std::proofs::lemmas::Bool::Decides::nat_tests), unfolding(rules::specs::Plan::in_range))]
 pub fn in_range(p: Plan) -> bool
     ensures { result ≡ in_range p }
 {
@@ -50,6 +51,7 @@ pub fn in_range(p: Plan) -> bool
 }
 
 // The highest unit number of a plan.
+#[tactic(auto, using(std::proofs::lemmas::Bool::Decides::nat_tests), unfolding(rules::specs::Plan::unit_limit))]
 pub fn unit_limit(p: Plan) -> u32
     ensures { result ≡ unit_limit p }
 {
@@ -61,6 +63,7 @@ pub fn unit_limit(p: Plan) -> u32
 }
 
 // Is this no plan to follow the plan in force: another type, CSP-F, or i not on the side of n?
+#[tactic(auto, using(crate::proofs::Laws::as_tests), unfolding(rules::specs::Change::not_allowed))]
 pub fn not_allowed(p: Plan, q: Plan) -> bool
     ensures { result ≡ not_allowed p q }
 {
@@ -71,6 +74,7 @@ pub fn not_allowed(p: Plan, q: Plan) -> bool
 }
 
 // Is this a queue's room?
+#[tactic(auto, using(crate::proofs::Laws::as_tests), unfolding(rules::specs::Plan::room_in_range))]
 pub fn room_in_range(room: u32) -> bool
     ensures { result ≡ room_in_range room }
 {
@@ -84,6 +88,7 @@ fn counted(flag: bool) -> u64
 }
 
 // A record from elsewhere may hold any numbers: sums of them are taken in 64 bits.
+#[tactic(auto, using(crate::proofs::Laws::as_tests), unfolding(rules::specs::Sound::sound_tally))]
 fn sound_tally(p: Plan, t: Tally) -> bool
     ensures { result ≡ sound_tally p t }
 {
@@ -95,12 +100,14 @@ fn sound_tally(p: Plan, t: Tally) -> bool
     (sum == (t.last as u64)) & (t.last <= unit_limit(p))
 }
 
+#[tactic(auto, using(crate::proofs::Laws::as_tests), unfolding(rules::specs::Sound::sound_need))]
 fn sound_need(p: Plan, need: u32) -> bool
     ensures { result ≡ sound_need p need }
 {
     (need == p.i) | ((p.kind == CSP_V) & (need == p.x))
 }
 
+#[tactic(auto, using(crate::proofs::Laws::as_tests), unfolding(rules::specs::Sound::sound_screening))]
 fn sound_screening(p: Plan, t: Tally, c: Screening) -> bool
     ensures { result ≡ sound_screening p t c }
 {
@@ -112,6 +119,7 @@ fn sound_screening(p: Plan, t: Tally, c: Screening) -> bool
         & (c.unrecalled <= t.conforming)
 }
 
+#[tactic(auto, using(crate::proofs::Laws::as_tests), unfolding(rules::specs::Sound::sound_places))]
 fn sound_places(len: u64, owed: bool, m: Sampling) -> bool
     ensures { result ≡ sound_places len owed m }
 {
@@ -133,6 +141,7 @@ fn level_begins(p: Plan, owed: bool, m: Sampling) -> bool
     row_counts(p, m.level) & (m.row == 0) & (m.place == 0) & !owed
 }
 
+#[tactic(auto, using(crate::proofs::Laws::as_tests), unfolding(rules::specs::Sound::sound_begin))]
 fn sound_begin(p: Plan, owed: bool, m: Sampling) -> bool
     ensures { result ≡ sound_begin p owed m }
 {
@@ -145,12 +154,14 @@ fn unwatched(m: Sampling) -> bool
     !m.watch & (m.watched == 0)
 }
 
+#[tactic(auto, using(crate::proofs::Laws::as_tests), unfolding(rules::specs::Sound::sound_watch))]
 fn sound_watch(p: Plan, m: Sampling) -> bool
     ensures { result ≡ sound_watch p m }
 {
     picked((p.kind == CSP_2) & m.watch, m.watched < p.i, unwatched(m))
 }
 
+#[tactic(auto, using(crate::proofs::Laws::as_tests, crate::proofs::Laws::known_tests, crate::proofs::Laws::begin_else, std::proofs::lemmas::Bool::Decides::nat_tests), unfolding(rules::specs::Sound::sound_sampling, rules::specs::Sound::sound_level, rules::specs::Sound::sound_row, rules::specs::Sound::sound_watch))]
 fn sound_sampling(p: Plan, t: Tally, m: Sampling) -> bool
     ensures { result ≡ sound_sampling p t m }
 {
@@ -172,6 +183,7 @@ fn sound_sampling(p: Plan, t: Tally, m: Sampling) -> bool
     (m.row == 0) & sound_watch(p, m)
 }
 
+#[tactic(auto, using(crate::proofs::Laws::as_tests), unfolding(rules::specs::Sound::sound_phase))]
 fn sound_phase(p: Plan, t: Tally, phase: Phase) -> bool
     ensures { result ≡ sound_phase p t phase }
 {
@@ -191,6 +203,7 @@ fn on_its_side(phase: Phase, p: Plan, q: Plan) -> bool
     }
 }
 
+#[tactic(auto, using(crate::proofs::Laws::as_tests), unfolding(rules::specs::Sound::sound_next))]
 fn sound_next(p: Plan, phase: Phase, q: Plan) -> bool
     ensures { result ≡ sound_next p phase q }
 {
@@ -206,6 +219,7 @@ fn sound_waiting(p: Plan, phase: Phase, w: Waiting) -> bool
     }
 }
 
+#[tactic(auto, using(crate::proofs::Laws::as_tests), unfolding(rules::specs::Sound::sound_numbers))]
 fn sound_numbers(room: u32, n: Numbers) -> bool
     ensures { result ≡ sound_numbers room n }
 {
@@ -222,6 +236,7 @@ fn sound_numbers(room: u32, n: Numbers) -> bool
         & (told_and_lost <= (n.oldest as u64))
 }
 
+#[tactic(auto, using(crate::proofs::Laws::as_tests), unfolding(rules::specs::Sound::sound_silence))]
 fn sound_silence(q: Silence, n: Numbers) -> bool
     ensures { result ≡ sound_silence q n }
 {
@@ -229,6 +244,7 @@ fn sound_silence(q: Silence, n: Numbers) -> bool
 }
 
 // Is the record sound?
+#[tactic(auto, using(crate::proofs::Laws::as_tests, crate::proofs::Laws::known_tests), unfolding(rules::specs::Sound::sound))]
 pub fn is_sound(s: Station) -> bool
     ensures { result ≡ sound s }
 {

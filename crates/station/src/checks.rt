@@ -4,6 +4,7 @@ ghost use Rattle.rules.specs.Calls.{refuse_if, no_queue, wrong_queue, numbers_sp
 
 use rules::{Call, EVENTS_END, Phase, Plan, Refusal, Station, Verdict};
 
+#[tactic(auto, unfolding(rules::specs::Calls::refuse_if))]
 fn refuse_if(fault: bool, r: Refusal, otherwise: Verdict) -> Verdict
     ensures { result ≡ refuse_if fault r otherwise }
 {
@@ -14,6 +15,7 @@ fn refuse_if(fault: bool, r: Refusal, otherwise: Verdict) -> Verdict
 }
 
 // No queue has more than the 12,288 words of 4,096 entries; up to there they are counted in 32 bits (document 02, W3).
+#[tactic(auto, using(crate::proofs::Memory::queue_tests))]
 fn no_queue(len: usize) -> bool
     ensures { result ≡ no_queue len }
 {
@@ -25,6 +27,7 @@ fn no_queue(len: usize) -> bool
 }
 
 // A room in its range is multiplied in 32 bits.
+#[tactic(auto, using(crate::proofs::Memory::queue_tests))]
 fn wrong_queue(room: u32, len: usize) -> bool
     ensures { result ≡ wrong_queue room len }
 {
@@ -34,12 +37,14 @@ fn wrong_queue(room: u32, len: usize) -> bool
     len != ((3 * room) as usize)
 }
 
+#[tactic(auto, using(std::proofs::lemmas::Bool::Decides::nat_tests), unfolding(rules::specs::Calls::numbers_spent))]
 fn numbers_spent(next: u32) -> bool
     ensures { result ≡ numbers_spent next }
 {
     (EVENTS_END as u64) < (next as u64) + 3
 }
 
+#[tactic(auto, using(std::proofs::lemmas::Bool::Decides::nat_tests), unfolding(rules::specs::Calls::nothing_to_find))]
 fn nothing_to_find(phase: Phase) -> bool
     ensures { result ≡ nothing_to_find phase }
 {

@@ -109,6 +109,7 @@ fn taken_if(shift: bool, unit: u32, r: Ruled) -> Ruled
 }
 
 // At a shift from one phase to the other a plan that waits is taken up.
+#[tactic(auto, unfolding(rules::specs::Change::at_shift))]
 pub fn at_shift(unit: u32, before: Phase, r: Ruled) -> Ruled
     ensures { result ≡ at_shift unit before r }
 {
@@ -147,6 +148,7 @@ fn fresh_moved(q: Plan, unit: u32, phase: Phase) -> Moved
     }
 }
 
+#[tactic(auto, using(std::proofs::lemmas::Bool::Decides::nat_tests), unfolding(rules::specs::Change::level_raised))]
 fn level_raised(level: u32, unit: u32) -> Raised
     ensures { result ≡ level_raised level unit }
 {
@@ -246,6 +248,7 @@ fn changed(equal: bool, demand: bool, may: bool, q: Plan, s: Stream) -> Ruled
 }
 
 // A new plan of the same type.
+#[tactic(auto, using(std::proofs::lemmas::Bool::Decides::nat_tests), unfolding(rules::specs::Change::way_of))]
 pub fn change_rule(q: Plan, demand: bool, s: Stream) -> Ruled
     ensures { result ≡ change_rule q demand s }
 {

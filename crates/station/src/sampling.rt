@@ -9,6 +9,7 @@ use rules::{
     Arrived, CSP_2, CSP_T, CSP_V, Drawn, Event, Kind, Moved, Phase, Plan, Raised, Sampling,
 };
 
+#[tactic(auto, using(std::proofs::lemmas::Bool::Decides::nat_tests), unfolding(rules::specs::Sampling::drawn))]
 fn draw_place(len: u16, s: u32, m: Sampling) -> Drawn
     ensures { result ≡ drawn len s m }
 {
@@ -69,6 +70,7 @@ fn quiet(phase: Phase) -> Moved
     }
 }
 
+#[tactic(auto, using(std::proofs::lemmas::Bool::Decides::nat_tests), unfolding(rules::specs::Sampling::good_t))]
 fn good_t(p: Plan, unit: u32, m: Sampling) -> Moved
     requires { (m.level ≤ 2) × (m.row ≤ clearance_limit) }
     ensures { result ≡ good_t p unit m }
@@ -91,6 +93,7 @@ fn good_t(p: Plan, unit: u32, m: Sampling) -> Moved
     quiet(with_counts(row, m.watch, m.watched, m))
 }
 
+#[tactic(auto, using(std::proofs::lemmas::Bool::Decides::nat_tests), unfolding(rules::specs::Sampling::good_v))]
 fn good_v(p: Plan, m: Sampling) -> Moved
     requires { m.row ≤ clearance_limit }
     ensures { result ≡ good_v p m }
@@ -101,6 +104,7 @@ fn good_v(p: Plan, m: Sampling) -> Moved
     quiet(Phase::Sample(m))
 }
 
+#[tactic(auto, using(std::proofs::lemmas::Bool::Decides::nat_tests), unfolding(rules::specs::Sampling::good2))]
 fn good_2(p: Plan, m: Sampling) -> Moved
     requires { m.watched ≤ clearance_limit }
     ensures { result ≡ good2 p m }
@@ -115,6 +119,7 @@ fn good_2(p: Plan, m: Sampling) -> Moved
     quiet(Phase::Sample(m))
 }
 
+#[tactic(auto, using(std::proofs::lemmas::Bool::Decides::nat_tests), unfolding(rules::specs::Sampling::sampled_good))]
 pub fn sampled_good(p: Plan, unit: u32, m: Sampling) -> Moved
     requires { (m.level ≤ 2) × (m.row ≤ clearance_limit) × (m.watched ≤ clearance_limit) }
     ensures { result ≡ sampled_good p unit m }
@@ -131,6 +136,7 @@ pub fn sampled_good(p: Plan, unit: u32, m: Sampling) -> Moved
     quiet(Phase::Sample(m))
 }
 
+#[tactic(auto, using(record::proofs::Laws::as_tests), unfolding(rules::specs::Sampling::need_after_sampling))]
 fn need_after_sampling(p: Plan, q: Plan, row: u32) -> u32
     ensures { result ≡ need_after_sampling p q row }
 {
@@ -161,6 +167,7 @@ fn revert(need: u32, unit: u32) -> Moved
     }
 }
 
+#[tactic(auto, using(record::proofs::Laws::as_tests), unfolding(rules::specs::Sampling::sampled_bad))]
 pub fn sampled_bad(p: Plan, q: Plan, unit: u32, m: Sampling) -> Moved
     ensures { result ≡ sampled_bad p q unit m }
 {

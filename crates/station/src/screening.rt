@@ -47,6 +47,7 @@ pub fn restart_raised(cause: Event, unit: u32, phase: Phase) -> Raised
     }
 }
 
+#[tactic(auto, using(std::proofs::lemmas::Bool::Decides::nat_tests), unfolding(rules::specs::Screening::screened_good))]
 pub fn screened_good(unit: u32, c: Screening) -> Moved
     requires { (c.run < clearance_limit) × (c.screened < highest_unit) × (c.unrecalled < highest_unit) }
     ensures { result ≡ screened_good unit c }
@@ -73,18 +74,21 @@ pub fn screened_good(unit: u32, c: Screening) -> Moved
     }
 }
 
+#[tactic(auto, using(std::proofs::lemmas::Bool::Decides::nat_tests), unfolding(rules::specs::Screening::need_after_defect))]
 fn need_after_defect(p: Plan, need: u32) -> u32
     ensures { result ≡ need_after_defect p need }
 {
     if p.kind == CSP_V { p.i } else { need }
 }
 
+#[tactic(auto, using(record::proofs::Laws::as_tests), unfolding(rules::specs::Screening::long_screening))]
 fn long_screening(p: Plan, screened: u32) -> bool
     ensures { result ≡ long_screening p screened }
 {
     (p.s != 0) & (p.s <= screened)
 }
 
+#[tactic(auto, unfolding(rules::specs::Screening::defect_raised))]
 fn defect_raised(long: bool, unit: u32, screened: u32) -> Raised
     ensures { result ≡ defect_raised long unit screened }
 {
@@ -106,6 +110,7 @@ fn defect_raised(long: bool, unit: u32, screened: u32) -> Raised
     Raised::One(defect)
 }
 
+#[tactic(auto, unfolding(rules::specs::Screening::screened_bad))]
 pub fn screened_bad(p: Plan, unit: u32, c: Screening) -> Moved
     requires { c.screened < highest_unit }
     ensures { result ≡ screened_bad p unit c }

@@ -104,6 +104,7 @@ fn restart(cause: Event, unit: u32, s: Stream) -> Ruled
 }
 
 // The units between the last and k are missed.
+#[tactic(auto, using(std::proofs::lemmas::Bool::Decides::nat_tests), unfolding(rules::specs::Stream::jumped))]
 fn jump(k: u32, s: Stream) -> Ruled
     requires { (s.tally.last < k) × (k ≤ highest_unit) × (s.tally.missed ≤ highest_unit) }
     ensures { result ≡ jumped k s }
@@ -125,6 +126,7 @@ fn jump(k: u32, s: Stream) -> Ruled
 }
 
 // Every unit is inspected in screening, and the one at the chosen place in sampling.
+#[tactic(auto, using(rules::proofs::Facts::block_high))]
 fn arrive(p: Plan, s: u32, phase: Phase) -> Arrived
     requires { PlanFacts p × Placed phase }
     ensures { result ≡ arrived p s phase }
@@ -153,6 +155,7 @@ fn one_more_unless(test: bool, count: u32) -> u32
     if test { count } else { count + 1 }
 }
 
+#[tactic(auto, unfolding(rules::specs::Stream::arrived_tally))]
 fn arrived_tally(k: u32, inspect: bool, t: Tally) -> Tally
     requires { t.passed ≤ highest_unit }
     ensures { result ≡ arrived_tally k inspect t }
@@ -206,6 +209,7 @@ fn handle(k: u32, j: Ruled) -> Ruled
     }
 }
 
+#[tactic(auto, using(crate::proofs::Laws::jumped_fit))]
 pub fn unit_rule(k: u32, s: Stream) -> Ruled
     requires { StreamFacts s × (s.tally.owed ≡ false) × (s.tally.last < k) × (k ≤ unit_limit s.plan) }
     ensures { result ≡ unit_rule k s }
@@ -213,6 +217,7 @@ pub fn unit_rule(k: u32, s: Stream) -> Ruled
     handle(k, jump(k, s))
 }
 
+#[tactic(auto, using(std::proofs::lemmas::Bool::Decides::nat_tests), unfolding(rules::specs::Stream::result_phase))]
 fn screened_result(p: Plan, next: Plan, unit: u32, r: u32, c: Screening) -> Moved
     requires { Countable (Phase.Screen c) }
     ensures { result ≡ result_phase p next unit r (Phase.Screen c) }
@@ -224,6 +229,7 @@ fn screened_result(p: Plan, next: Plan, unit: u32, r: u32, c: Screening) -> Move
     }
 }
 
+#[tactic(auto, using(std::proofs::lemmas::Bool::Decides::nat_tests), unfolding(rules::specs::Stream::result_phase))]
 fn sampled_result(p: Plan, next: Plan, unit: u32, r: u32, m: Sampling) -> Moved
     requires { Countable (Phase.Sample m) }
     ensures { result ≡ result_phase p next unit r (Phase.Sample m) }
@@ -245,6 +251,7 @@ fn result_phase(p: Plan, next: Plan, unit: u32, r: u32, phase: Phase) -> Moved
     }
 }
 
+#[tactic(auto, using(std::proofs::lemmas::Bool::Decides::nat_tests), unfolding(rules::specs::Stream::result_tally))]
 fn result_tally(r: u32, t: Tally) -> Tally
     requires { (t.conforming ≤ highest_unit) × (t.defective ≤ highest_unit) }
     ensures { result ≡ result_tally r t }
@@ -335,6 +342,7 @@ fn with_silence(ticks: u32, s: Stream) -> Stream
     }
 }
 
+#[tactic(auto, using(std::proofs::lemmas::Bool::Decides::nat_tests), unfolding(rules::specs::Stream::tick_rule))]
 pub fn tick_rule(s: Stream) -> Ruled
     requires { s.silence.ticks ≤ event_limit }
     ensures { result ≡ tick_rule s }

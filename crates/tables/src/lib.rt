@@ -38,6 +38,7 @@ fn row(period: u32) -> usize
 }
 
 // The row of a letter in Table V: J and K share the last.
+#[tactic(auto, using(std::proofs::lemmas::Bool::Decides::nat_tests), unfolding(rules::specs::Tables::letter_row))]
 fn letter_row(letter: u32) -> usize
     requires { (1 ≤ letter) × (letter ≤ 11) }
     ensures { (result ≡ letter_row letter) × (result ≤ 9) }
