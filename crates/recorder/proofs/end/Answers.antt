@@ -13,5 +13,5 @@ returns c =
           ∙ take-paste o 0 a 33 (omega arith) (omega arith)
           ∙ take_all 33 a (omega arith)
           ∙ c.answer_line-answer.ensures
-          ∙ sym (last_some c.args.line.now c.if-line-eq0.false),
+          ∙ sym (last_some c.args.line.now (λ e. omega arith)),
     )
