@@ -1,12 +1,11 @@
 -- At most one outcome: a text makes one answer, one queue and one output of a session, its queue and an output. Assumes nothing.
 use Prim.Native.Nat.{ℕ, ◌<◌}
 use mathlib.Core.Path.{◌≡◌, sym, ap, ◌∙◌}
-use mathlib.Core.List.{List, [], ◌++◌}
+use mathlib.Core.List.{List, []}
 use native.Mathlib.Omega.{arith}
 use lib.ListN.{length, take, drop, take-append-drop}
 use lib.Seq.{length-take-le, ext_get_or}
 use Rattle.rules.specs.declared.Session.{Session}
-use Rattle.frames.specs.Replies.{session_of}
 use Rattle.frames.specs.Course.{Course, walk}
 use Rattle.frames.specs.Walks.{Walks}
 use Rattle.frames.specs.Weights.{Weighs}

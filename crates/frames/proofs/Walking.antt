@@ -11,7 +11,6 @@ use lib.ListN.{length, take, drop, get_or, length-drop}
 use lib.Seq.{append_snoc, take_all, take-suc, take-add, split_at, length-take-le, get_or-take, get_or-drop, drop-drop, paste, take-paste, drop-paste}
 use borrow.Author.Tests.{ne_eqb, ltb-true, ltb-false, leb-true, leb-false}
 use Rattle.rules.specs.Tests.{pick, within as from-to}
-use Rattle.rules.specs.Calls.{answer_values, open_call, outcome}
 use Rattle.rules.specs.Frames.{printed, reply, reading_reply, frame_reply, number_reply, seed_of, found_reply, table_reply, read_line}
 use Rattle.rules.specs.Tables.{look_up}
 use Rattle.rules.specs.declared.Found.{Found}

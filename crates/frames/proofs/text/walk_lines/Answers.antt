@@ -14,7 +14,8 @@ loop-from-init c =
 pub returns-then-end-text : goal.returns-then-end-text
 returns-then-end-text c =
     let l = c.loop-from in let text = c.args.text.now in
-    let none = unended text l.from c.line_end-end.result c.line_end-end.ensures c.if-end-text.true in
+    let e = c.line_end-end in let at_end : e.result ≡ length text = omega (arith, e.ensures.high) in
+    let none = unended text l.from e.result e.ensures at_end in
     let last = gone_none ((length c.args.out.now - l.at) / 33) 0 (drop l.from text) none in
     record { from = omega (arith, l.invariant.gone, last); course = l.invariant.course; room = l.invariant.room; rest = l.invariant.rest; all = λ h. none }
 
@@ -23,7 +24,7 @@ pub loop-from-preserved : goal.loop-from-preserved
 loop-from-preserved c =
     let l = c.loop-from in let i = l.invariant in let e = c.line_end-end in let text = c.args.text.now in let first = c.args.out.now in
     let given = goes_on l.from (length text) (length l.out - l.at) c.loop-from-test.true in
-    let inside : e.result < length text = omega (arith, e.ensures.high, c.if-end-text.false) in
+    let inside : e.result < length text = omega (arith, e.ensures.high) in
     let fits : l.at + 33 ≤ length l.out = omega (arith, given.1, i.room) in
     let left : (length first - l.at) / 33 ≡ suc ((length first - (l.at + 33)) / 33) = omega (arith, fits, i.size) in
     let more = gone_on text l.from e.result e.ensures inside ((length first - (l.at + 33)) / 33) in
