@@ -6,19 +6,15 @@ use native.Mathlib.Decide.{dec_lt}
 use native.Mathlib.Omega.{arith}
 use lib.ListN.{get_or}
 use borrow.Author.Tests.{lt-ltb, le-ltb}
+use Rattle.std.proofs.lemmas.Bool.Decides.{nat_tests}
 use Rattle.rules.specs.Tests.{◌and◌}
 use Rattle.rules.specs.Frames.{digit, joined, hex, no_number}
 use Rattle.frames.specs.Weights.{weight, sum, limited, Weighs}
 
 -- a weight is at most that of a byte that is no digit
-module _ (b : ℕ) where
-  most : weight b ≤ 2 ^ 32
-  unfolding weight
-  most = go (dec_lt (digit b) 16)
-    where
-      go : Dec (digit b < 16) → weight b ≤ 2 ^ 32
-      go (yes h) = rw (lt-ltb (digit b) 16 h) (omega arith)
-      go (no h) = rw (le-ltb (digit b) 16 (omega arith)) (omega arith)
+most : (b : ℕ) → weight b ≤ 2 ^ 32
+unfolding weight
+most b = grind (arith, nat_tests)
 
 -- a byte's weight in a table of all
 pub weighs_at : (t : List ℕ) (b : ℕ) → Weighs t → b < 256 → (get_or t b 0 ≡ weight b) × (get_or t b 0 ≤ 2 ^ 32)
