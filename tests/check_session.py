@@ -971,7 +971,7 @@ lib | run)
     echo "$name" >>"$kit/asked"
     [ -f "$kit/slow" ] && sleep 0.5
     [ -f "$kit/hang" ] && {{ sleep 300 & echo $! >"$kit/child"; wait; }}
-    [ -f "$kit/fail" ] && {{ echo "rt: $name NOT PROVED"; exit 1; }}
+    [ -f "$kit/fail" ] && {{ printf '%s\n' "fn $name::f: proved" "fn $name::g: not proved" 'logic=not-proved'; exit 1; }}
     [ -f "$kit/full" ] && {{ echo 'rattle: cannot write: No space left on device'; exit 2; }}
     mkdir -p out
     if [ "$(sums)" != "$(cat "$made.stamp" 2>/dev/null)" ]; then
@@ -1304,7 +1304,7 @@ def read_only(report, scratch):
 
 
 def proofs(report, scratch):
-    """A line for each crate that takes its time; a failed proof shows what rt said last."""
+    """A line for each crate that takes its time; a failed proof shows what rt said of it."""
     scratch.flag('slow')
     scratch.patience('0')
     done = scratch.run('session')
@@ -1321,7 +1321,7 @@ def proofs(report, scratch):
     (scratch.root / 'crates' / 'base' / 'src' / 'lib.rt').write_text('wrong')
     done = scratch.run('session')
     said = done.stderr.decode()
-    failed = '    rt: base NOT PROVED\n' in said and 'base was not proved: rt ended with 1' in said
+    failed = said.startswith('    fn base::g: not proved\nbin/session: base was not proved: rt ended with 1')
     report.check(failed and done.returncode == 1 and not done.stdout, f'bin/session on a failed proof: {done.returncode}: {said}')
     scratch.flag('fail', on=False)
     scratch.flag('full')

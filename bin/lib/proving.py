@@ -10,6 +10,7 @@ import errno
 import fcntl
 import hashlib
 import os
+import re
 import shutil
 import signal
 import subprocess
@@ -31,6 +32,7 @@ SECONDS = {
 AT_ONCE = 1.5   # seconds in which rt says that nothing has changed, so that no line need be shown
 PATIENCE = 5    # seconds that a process has to end in before it is killed
 TAIL = 12
+UNPROVED = re.compile(r'^fn \S+: (?!proved)|: error\b')
 LITTLE = 1 << 16
 
 
@@ -215,9 +217,7 @@ class Proof:
 
     def told(self, beginning):
         """Whether rt has told so of this crate."""
-        with open(self.log.name, 'rb') as log:
-            log.seek(self.logged)
-            return any(line.startswith(beginning.encode()) for line in log)
+        return any(line.startswith(beginning) for line in self.lines())
 
     def show(self, at, crate):
         if not self.said:
@@ -238,17 +238,21 @@ class Proof:
             sys.stderr.write(text)
             sys.stderr.flush()
 
-    def last_lines(self):
-        return Path(self.log.name).read_text(errors='replace').splitlines()[-TAIL:]
+    def lines(self):
+        """What rt has said of this crate."""
+        with open(self.log.name, 'rb') as log:
+            log.seek(self.logged)
+            return log.read().decode(errors='replace').splitlines()
 
     def failed(self, crate, status):
-        """What rt said last, and where all of it stands."""
-        tail = self.last_lines()
+        """What rt said of each function or place that is not proved, else what it said last, and where all of it stands."""
+        tail = self.lines()[-TAIL:]
         if full(self.program.root) or any(os.strerror(errno.ENOSPC) in line for line in tail):
             return Fault(f'{crate} was not proved: the disk that holds {self.program.root} is full; the log is {LOG}')
-        for line in tail:
+        unproved = [line for line in self.lines() if UNPROVED.search(line)]
+        for line in unproved[:TAIL] or tail:
             self.write(f'    {line[:400]}\n')
-        return Fault(f'{crate} was not proved: rt ended with {status}; above are the last lines of {LOG}', FAILED)
+        return Fault(f'{crate} was not proved: rt ended with {status}; above are lines of {LOG}', FAILED)
 
 
 # ---- Processes
