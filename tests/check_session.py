@@ -35,7 +35,7 @@ COMMANDS = ('session', 'journal', 'run')
 NOT_PASSED_ON = ('RECORDER_ROOT', 'SECOND_ROOT', 'PYTHONUNBUFFERED')  # each would change what is tried
 PROVING = r'''bin/session: crates/recorder/out/recorder is not built yet: .* the prover's log is build/log/bin-session\.log
 bin/session: proving base, 1 of 2 \.\. proved in \d+ s
-bin/session: proving recorder, 2 of 2, about 30 s \.\. proved in \d+ s
+bin/session: proving recorder, 2 of 2, about 35 s \.\. proved in \d+ s
 '''
 PROVED = '''\
 logic=proved crate=base

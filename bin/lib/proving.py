@@ -25,9 +25,9 @@ from lib.command import FAILED, Fault, Unbroken, say
 
 PARTS = ('src', 'specs', 'proofs')
 LOG = 'build/log/bin-session.log'
-# Seconds that a proof takes on two idle cores: for a reader who waits, so no more than a hint.
+# Seconds that a proof takes on two idle cores, half its processor time: for a reader who waits, so no more than a hint.
 SECONDS = {
-    'rules': 8, 'draw': 3, 'tables': 7, 'record': 16, 'station': 80, 'frames': 50, 'recorder': 30, 'probe': 40, 'rooms': 12,
+    'rules': 12, 'draw': 10, 'tables': 12, 'record': 22, 'station': 75, 'frames': 55, 'recorder': 35, 'probe': 40, 'rooms': 20,
 }
 AT_ONCE = 1.5   # seconds in which rt says that nothing has changed, so that no line need be shown
 PATIENCE = 5    # seconds that a process has to end in before it is killed
