@@ -14,6 +14,7 @@ FACTS = (
     '`cases-hold`: expected type `allSeen cases ≡ allDue cases`, but this has type `allSeen cases ≡ allSeen cases`',
     '`V-S`: as printed, the two types differ only where one has `true` (expected)',
     '`numbers-left`: computed as far as they go, the two types are `e + 2 ≤ 8` (expected) and `e + 1 ≤ 8` (found)',
+    '`good_T`: computed as a goal is, one side reads `SamplingFacts p t m`\n  (right)',
     '`returns`: `take n line`\n  ≟ `take m line`\n  does not hold (this comparison had to wait; it turned out false)',
 )
 GONE = (
@@ -32,6 +33,7 @@ MISFITS = (
     '`product-spec`: expected type `Lts.Closed Pre Post ?0`\n  but this has type `tie.Need-returns → Lts.Closed Pre Post ?1`',
 )
 FOLLOWING = '2 declarations that depend on `returns`, which was rejected, were not checked: spec, joined (via spec)'
+LEFT_OPEN = ('`jumped_facts` is not admitted: unsolved', 'unsolved ?18 in `jumped_facts`: `_` was not determined')
 OWN, OTHERS = 'proofs/product/Answers.antt:9:14', 'proofs/place/Answers.antt:9:14'
 # What a log says of the declaration `find-shows` of proofs/Runs.antt, and of others.
 RUNS, FACT = 'proofs/Runs.antt:301:40', '`find-shows`: expected type `Shows a`, but this has type `Shows b`'
@@ -81,6 +83,7 @@ def check(report, pair, options):
     for text in FACTS:
         expect(report, log((OWN, text)), True, f'a fact fails: {text}')
         expect(report, log((OWN, FOLLOWING), (OWN, text)), True, f'a fact fails after what follows from another: {text}')
+        expect(report, log(*((OTHERS, left) for left in LEFT_OPEN), (OWN, text)), True, f'a fact fails after what is left open: {text}')
         for place in ('src/lib.rt:29:26', 'specs/Draw.antt:6:10'):
             expect(report, log((place, text), (OWN, text)), False, f'{place} cannot be read: {text}')
     for text in MISFITS:
@@ -89,6 +92,7 @@ def check(report, pair, options):
     for text in GONE:
         expect(report, log((OWN, FACTS[0]), (OWN, text)), False, f'a fact fails, and something is gone after that: {text}')
     expect(report, log((OWN, FOLLOWING)), False, 'it only follows from another')
+    expect(report, log(*((OWN, left) for left in LEFT_OPEN)), False, 'a term is left open')
     expect(report, log(), False, 'nothing is said')
     expect(report, log(verdict='no proof: expected answers in p; `search` did not prove `returns`'), True, 'a search fails')
     report.check(refusal_of_function(log((OTHERS, FACTS[0])), 'draw', 'product'), 'must-fail: an error of another function counts')

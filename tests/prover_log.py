@@ -19,6 +19,7 @@ FACTS = re.compile('|'.join((
     r'expected type `',
     r'as printed, the two ',
     r'computed as far as they go, the two ',
+    r'computed as a goal is, one side reads ',
     r'`.*`\n  ≟ `.*`\n  does not hold ',
 )))
 # Types that differ are no fact where what differs is the list of parts that a proof is closed with.
@@ -27,14 +28,16 @@ PARTS = re.compile(r'(expected|as printed|computed).*(\bLts\.Closed|\bNeed-)', r
 # may fail for that alone: wherever such an error stands, none of the others shows anything.
 GONE = re.compile(r'has no (field |function )?`|is not in scope|is not a field of ')
 FOLLOWS = re.compile(r'\d+ declarations? that depends? on ')
+# A term that a proof leaves to be found is not found, since what told it is bent: that says nothing, for or against.
+OPEN = re.compile(r'`[^`]*` is not admitted: unsolved|unsolved \?')
 SEARCHED = '`search` did not prove '
 ERROR = re.compile(r'(?m)^(?:\./)?(\S+): error(?:\[\S+\])?: (?:`([^`\n]*)`: )?(.*(?:\n  .*)*)')
 
 
 def errors(log):
-    """The errors that do not merely follow from another, in the order of the log."""
+    """The errors that say something of their own, in the order of the log: not what merely follows, nor what is left open."""
     found = (Error(*match.groups()) for match in ERROR.finditer(log))
-    return [error for error in found if not FOLLOWS.match(error.text)]
+    return [error for error in found if not FOLLOWS.match(error.text) and not OPEN.match(error.text)]
 
 
 def of_a_fact(error):
