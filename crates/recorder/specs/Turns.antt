@@ -26,7 +26,7 @@ abbrev pub IsLast : Result ℕ Error → Type 0
 IsLast (Ok k) = k ≡ 0
 IsLast (Err e) = error_kind e ≢ Interrupted
 
--- a read or a write that was lent n bytes moved as many as it answered; it is not the last if it moved any
+-- a read or a write that was lent n bytes moved as many as it answered; it is the last as its answer tells, and is not if it moved any
 pub record Moves (answer : Result ℕ Error) (n : ℕ) (r : Moved) : Type 0 where
   pub bytes : r.bytes ≡ count answer n
   pub room : r.bytes ≤ n

@@ -41,7 +41,7 @@ struct Turned {
     handed: Handed,
 }
 
-// A call that failed has moved nothing.
+// How many bytes a read or a write moved: a call that failed has moved none.
 fn count(got: io::Result<usize>, buf: &[u8]) -> usize
     ensures { (result ≡ count got (length buf.now)) × (result ≤ length buf.now) }
 {
@@ -53,7 +53,7 @@ fn count(got: io::Result<usize>, buf: &[u8]) -> usize
 
 // A call that a signal interrupted has moved nothing and is made again.
 fn is_over(got: io::Result<usize>, bytes: usize) -> bool
-    ensures { (result ≡ true → bytes ≡ 0) × (bytes ≡ 0 → result ≡ true ↔ IsLast got) }
+    ensures { (result ≡ true → bytes ≡ 0) × (bytes ≡ 0 → (result ≡ true ↔ IsLast got)) }
 {
     if 0 < bytes {
         return false;
