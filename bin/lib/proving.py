@@ -27,7 +27,7 @@ PARTS = ('src', 'specs', 'proofs')
 LOG = 'build/log/bin-session.log'
 # Seconds that a proof takes on two idle cores, half its processor time: for a reader who waits, so no more than a hint.
 SECONDS = {
-    'rules': 12, 'draw': 10, 'tables': 12, 'record': 22, 'station': 75, 'frames': 55, 'recorder': 35, 'probe': 40, 'rooms': 20,
+    'rules': 12, 'draw': 10, 'tables': 12, 'record': 22, 'station': 75, 'frames': 55, 'recorder': 35, 'probe': 50, 'rooms': 20,
 }
 AT_ONCE = 1.5   # seconds in which rt says that nothing has changed, so that no line need be shown
 PATIENCE = 5    # seconds that a process has to end in before it is killed
