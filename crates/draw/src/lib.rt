@@ -11,6 +11,11 @@ ghost use Rattle.rules.specs.Sampling.{block_length, next_place};
 pub use pairs::{applied, composed, pair_of, skip};
 use rules::Plan;
 
+// A step is a state times this, and this more.
+const MULTIPLIER: u32 = 1664525;
+
+const ADDEND: u32 = 1013904223;
+
 // L, of any n and level.
 #[tactic(auto, using(std::proofs::lemmas::Bool::Decides::nat_tests), unfolding(rules::specs::Sampling::block_length))]
 pub fn block_length(p: Plan, level: u32) -> u64
@@ -18,13 +23,11 @@ pub fn block_length(p: Plan, level: u32) -> u64
 {
     let n = p.n as u64;
     let twice = n + n;
-    if level == 0 {
-        return n;
+    match level {
+        0 => n,
+        1 => twice,
+        _ => twice + twice,
     }
-    if level == 1 {
-        return twice;
-    }
-    twice + twice
 }
 
 // The place after this one, counted round a block.
@@ -57,24 +60,28 @@ fn half_product(a: u16, b: u16) -> u32
 }
 
 // a * b, wrapping at 2^32: the product of the high halves lies above that, and of the two mixed ones only the low halves lie below.
+// The library's `wrapping_mul` would do: of the step it makes one product, where `tests/run --only products` holds two and three, and the
+// must-fail edits draws_1 to draws_5 bend the halves.
+#[tactic(auto, using(crate::proofs::Halves::wrapped))]
 fn wrapping_mul(a: u32, b: u32) -> u32
     ensures { result ≡ a * b % 2 ^ 32 }
 {
     let high_low = half_product(high_half(a), low_half(b)) % 65536;
     let low_high = half_product(low_half(a), high_half(b)) % 65536;
     let low_low = half_product(low_half(a), low_half(b));
-    std::num::wrapping_add_u32(low_low, (high_low + low_high) % 65536 * 65536)
+    low_low.wrapping_add((high_low + low_high) % 65536 * 65536)
 }
 
 // The state of the generator after s.
 pub fn step(s: u32) -> u32
     ensures { result ≡ step s }
 {
-    std::num::wrapping_add_u32(wrapping_mul(1664525, s), 1013904223)
+    wrapping_mul(MULTIPLIER, s).wrapping_add(ADDEND)
 }
 
 // The place that the state s chooses in a block of len, counted from 0: of the low half's product only the carry counts. The length is
 // of 16 bits, so that two products do: of the four for any length a compiler makes a wide one again.
+#[tactic(auto, using(crate::proofs::Halves::above))]
 pub fn place(s: u32, len: u16) -> u32
     ensures { result ≡ place s len }
 {

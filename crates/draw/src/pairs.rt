@@ -2,19 +2,25 @@
 ghost use Rattle.std.specs.Prelude.{◌≡◌};
 ghost use Rattle.rules.specs.Draw.{skip, applied, composed, pair_of};
 
-use crate::wrapping_mul;
+use crate::{ADDEND, MULTIPLIER, wrapping_mul};
 use rules::Pair;
 
-// A step is a state times this, and this more.
-const MULTIPLIER: u32 = 1664525;
+// The pair of no step, which leaves a state as it is, and that of one.
+const NO_STEP: Pair = Pair {
+    multiplier: 1,
+    addend: 0,
+};
 
-const ADDEND: u32 = 1013904223;
+const ONE_STEP: Pair = Pair {
+    multiplier: MULTIPLIER,
+    addend: ADDEND,
+};
 
 // What a pair makes of a state.
 pub fn applied(p: Pair, s: u32) -> u32
     ensures { result ≡ applied p s }
 {
-    std::num::wrapping_add_u32(wrapping_mul(p.multiplier, s), p.addend)
+    wrapping_mul(p.multiplier, s).wrapping_add(p.addend)
 }
 
 // First p, then q, as one pair.
@@ -28,30 +34,24 @@ pub fn composed(p: Pair, q: Pair) -> Pair
 }
 
 // The pair of m steps: that of half as many, twice, and one step more where m is odd.
+#[tactic(auto, using(rules::proofs::Pairs::pairs, crate::proofs::Halving::of_even, crate::proofs::Halving::of_odd))]
 pub fn pair_of(m: u32) -> Pair
     ensures { result ≡ pair_of m }
 {
     if m == 0 {
-        return Pair {
-            multiplier: 1,
-            addend: 0,
-        };
+        return NO_STEP;
     }
     let half = pair_of(m / 2);
     let even = composed(half, half);
     if m % 2 == 0 {
-        return even;
+        even
+    } else {
+        composed(even, ONE_STEP)
     }
-    composed(
-        even,
-        Pair {
-            multiplier: MULTIPLIER,
-            addend: ADDEND,
-        },
-    )
 }
 
 // The state after m steps from s.
+#[tactic(auto, using(rules::proofs::Pairs::pairs))]
 pub fn skip(s: u32, m: u32) -> u32
     ensures { result ≡ skip s m }
 {

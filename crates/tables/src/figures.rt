@@ -1,4 +1,5 @@
-// The figures of the built-in tables.
+// The figures of the built-in tables. The tables are flat, and i and S stand apart, as in the definitions: an array of rows, or of pairs, is
+// indexed by a product of 64 bits, which `tests/run --only products` refuses (document 02, W3).
 
 // n by code letter, A to K.
 pub const FREQUENCIES: [u32; 11] = [2, 3, 4, 5, 7, 10, 15, 25, 50, 100, 100];
@@ -23,13 +24,13 @@ pub const TABLE_V_S: [u32; 80] = [
     653, 391,
 ];
 
-// Where each row of Table iii_a_4 but the last ends.
+// Where each row of Table III-A-4 but the last ends.
 pub const ENDS: [u32; 20] = [
     500, 1000, 2000, 3000, 4000, 5000, 6000, 7000, 8000, 9000, 10000, 11000, 12000, 15000, 20000,
     30000, 40000, 50000, 60000, 70000,
 ];
 
-// i of Table iii_a_4, by row of N and letter.
+// i of Table III-A-4, by row of N and letter.
 pub const TABLE_III_A_4: [u32; 168] = [
     195, 233, 250, 259, 268, 275, 280, 284, 253, 327, 361, 380, 400, 415, 426, 435, 302, 424, 485,
     522, 563, 593, 617, 635, 324, 474, 557, 608, 668, 713, 748, 776, 336, 504, 604, 667, 744, 803,

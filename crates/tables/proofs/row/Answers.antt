@@ -1,18 +1,13 @@
--- The laws of First.antt, at the definition's list.
-use Rattle.std.proofs.Common.{rules, arith, le-leb}
-use Rattle.std.proofs.lemmas.Bool.{lt-leb}
+use Rattle.std.proofs.Common.{rules, tests, leb, refl, get_or}
+use Rattle.std.proofs.lemmas.Iterator.{YieldsList-from_range}
+use Rattle.std.proofs.lemmas.Iterator.Search.{find_from_yields_List}
 use Rattle.rules.specs.Tables.{ends}
-use Rattle.tables.proofs.First.{here, onward, nowhere}
+use Rattle.tables.proofs.First.{found, or_length}
 use Rattle.tables.proofs.row.Goals as goal
-
-pub returns-then-period-k : goal.returns-then-period-k
-unfolding ends
-returns-then-period-k c = (here c.loop-k.invariant.1 (omega arith) (search (rules, le-leb)), omega arith)
-
-pub loop-k-preserved : goal.loop-k-preserved
-unfolding ends
-loop-k-preserved c = (omega arith, onward c.loop-k.invariant.1 (omega arith) (search (rules, lt-leb)))
 
 pub returns : goal.returns
 unfolding ends
-returns c = (nowhere c.loop-k.invariant.1 (omega arith), omega arith)
+returns c =
+    or_length (leb c.args.period) ends _ _ c.unwrap_or.ensures
+    (found (leb c.args.period) ends _
+    (find_from_yields_List (λ k. leb c.args.period (get_or ends k 0)) _ _ _ c.find.ensures.ran (YieldsList-from_range 0 20 20 (cc) refl) (λ x b q k. search (rules, tests))))
