@@ -1,17 +1,14 @@
 // Document 01, "Calls and their checks": each call's checks in the document's order.
 ghost use Rattle.std.specs.Prelude.{◌≡◌};
-ghost use Rattle.rules.specs.Calls.{refuse_if, no_queue, wrong_queue, numbers_spent, nothing_to_find, open_checks, queue_checks, numbers_check, owed_check, unit_checks, result_checks, find_checks, change_checks, own_checks};
+ghost use Rattle.rules.specs.Calls.{refuse_if, no_queue, wrong_queue, numbers_spent, nothing_to_find, open_checks, queue_checks, numbers_check, owed_check, unit_checks, result_checks, find_checks, change_checks, own_checks, call_checks};
 
-use rules::{Call, EVENTS_END, Phase, Plan, Refusal, Station, Verdict};
+use rules::{Call, EVENTS_END, Phase, Plan, Refusal, Station};
 
 #[tactic(auto, unfolding(rules::specs::Calls::refuse_if))]
-fn refuse_if(fault: bool, r: Refusal, otherwise: Verdict) -> Verdict
-    ensures { result ≡ refuse_if fault r otherwise }
+fn refuse_if(fault: bool, r: Refusal) -> Result<(), Refusal>
+    ensures { result ≡ refuse_if fault r (Ok tt) }
 {
-    if fault {
-        return Verdict::Refuse(r);
-    }
-    otherwise
+    if fault { Err(r) } else { Ok(()) }
 }
 
 // No queue has more than the 12,288 words of 4,096 entries; up to there they are counted in 32 bits (document 02, W3).
@@ -54,115 +51,93 @@ fn nothing_to_find(phase: Phase) -> bool
     }
 }
 
-pub fn open_checks(p: Plan, len: usize) -> Verdict
+#[tactic(auto, using(crate::proofs::Checked::checked))]
+pub fn open_checks(p: Plan, len: usize) -> Result<(), Refusal>
     ensures { result ≡ open_checks p len }
 {
-    refuse_if(
-        no_queue(len),
-        Refusal::QueueMemory,
-        refuse_if(
-            !record::in_range(p),
-            Refusal::PlanOutOfRange,
-            Verdict::Accept,
-        ),
-    )
+    refuse_if(no_queue(len), Refusal::QueueMemory)?;
+    refuse_if(!record::in_range(p), Refusal::PlanOutOfRange)
 }
 
-pub fn queue_checks(s: Station, len: usize, own: Verdict) -> Verdict
-    ensures { result ≡ queue_checks s len own }
+#[tactic(auto, using(crate::proofs::Checked::checked))]
+fn queue_checks(s: Station, len: usize) -> Result<(), Refusal>
+    ensures { result ≡ queue_checks s len (Ok tt) }
 {
-    refuse_if(
-        wrong_queue(s.room, len),
-        Refusal::QueueMemory,
-        refuse_if(!record::is_sound(s), Refusal::UnsoundRecord, own),
-    )
+    refuse_if(wrong_queue(s.room, len), Refusal::QueueMemory)?;
+    refuse_if(!record::is_sound(s), Refusal::UnsoundRecord)
 }
 
-fn numbers_check(s: Station, rest: Verdict) -> Verdict
-    ensures { result ≡ numbers_check s.numbers.next rest }
+fn numbers_check(s: Station) -> Result<(), Refusal>
+    ensures { result ≡ numbers_check s.numbers.next (Ok tt) }
 {
-    refuse_if(numbers_spent(s.numbers.next), Refusal::NumbersSpent, rest)
+    refuse_if(numbers_spent(s.numbers.next), Refusal::NumbersSpent)
 }
 
-fn owed_check(s: Station, rest: Verdict) -> Verdict
-    ensures { result ≡ owed_check s.numbers.next s.stream.tally rest }
+#[tactic(auto, using(crate::proofs::Checked::checked))]
+fn owed_check(s: Station) -> Result<(), Refusal>
+    ensures { result ≡ owed_check s.numbers.next s.stream.tally (Ok tt) }
 {
-    numbers_check(s, refuse_if(s.stream.tally.owed, Refusal::ResultOwed, rest))
+    numbers_check(s)?; // 10 comes before 4
+    refuse_if(s.stream.tally.owed, Refusal::ResultOwed)
 }
 
-fn unit_checks(s: Station, k: u32) -> Verdict
+#[tactic(auto, using(crate::proofs::Checked::checked))]
+fn unit_checks(s: Station, k: u32) -> Result<(), Refusal>
     ensures { result ≡ unit_checks s.stream s.numbers.next k }
 {
-    owed_check(
-        s,
-        refuse_if(
-            k <= s.stream.tally.last,
-            Refusal::NotAboveLast,
-            refuse_if(
-                record::unit_limit(s.stream.plan) < k,
-                Refusal::AboveLimit,
-                Verdict::Accept,
-            ),
-        ),
-    )
+    owed_check(s)?;
+    refuse_if(k <= s.stream.tally.last, Refusal::NotAboveLast)?;
+    refuse_if(record::unit_limit(s.stream.plan) < k, Refusal::AboveLimit)
 }
 
-fn result_checks(s: Station, r: u32) -> Verdict
+#[tactic(auto, using(crate::proofs::Checked::checked))]
+fn result_checks(s: Station, r: u32) -> Result<(), Refusal>
     ensures { result ≡ result_checks s.stream s.numbers.next r }
 {
-    numbers_check(
-        s,
-        refuse_if(
-            1 < r,
-            Refusal::IllFormed,
-            refuse_if(!s.stream.tally.owed, Refusal::NoResultOwed, Verdict::Accept),
-        ),
-    )
+    numbers_check(s)?; // 10 comes before 9
+    refuse_if(1 < r, Refusal::IllFormed)?;
+    refuse_if(!s.stream.tally.owed, Refusal::NoResultOwed)
 }
 
-fn find_checks(s: Station) -> Verdict
+#[tactic(auto, using(crate::proofs::Checked::checked))]
+fn find_checks(s: Station) -> Result<(), Refusal>
     ensures { result ≡ find_checks s.stream s.numbers.next }
 {
-    let stream = s.stream;
-    let phase = stream.phase;
-    owed_check(
-        s,
-        refuse_if(
-            nothing_to_find(phase),
-            Refusal::NothingToFind,
-            Verdict::Accept,
-        ),
-    )
+    owed_check(s)?;
+    refuse_if(nothing_to_find(s.stream.phase), Refusal::NothingToFind)
 }
 
-fn change_checks(s: Station, q: Plan) -> Verdict
+#[tactic(auto, using(crate::proofs::Checked::checked))]
+fn change_checks(s: Station, q: Plan) -> Result<(), Refusal>
     ensures { result ≡ change_checks s.stream s.numbers.next q }
 {
-    owed_check(
-        s,
-        refuse_if(
-            record::not_allowed(s.stream.plan, q),
-            Refusal::ChangeNotAllowed,
-            refuse_if(
-                !record::in_range(q),
-                Refusal::PlanOutOfRange,
-                Verdict::Accept,
-            ),
-        ),
-    )
+    owed_check(s)?;
+    refuse_if(
+        record::not_allowed(s.stream.plan, q),
+        Refusal::ChangeNotAllowed,
+    )?;
+    refuse_if(!record::in_range(q), Refusal::PlanOutOfRange)
 }
 
 // The checks of a call after 1 and 2.
-pub fn own_checks(call: Call, s: Station) -> Verdict
+fn own_checks(call: Call, s: Station) -> Result<(), Refusal>
     ensures { result ≡ own_checks call s.stream s.numbers.next }
 {
     match call {
         Call::Unit(k) => unit_checks(s, k),
         Call::Result(r) => result_checks(s, r),
-        Call::Interrupt => owed_check(s, Verdict::Accept),
+        Call::Interrupt => owed_check(s),
         Call::CheckFind => find_checks(s),
-        Call::Tick => numbers_check(s, Verdict::Accept),
-        Call::Take => Verdict::Accept,
+        Call::Tick => numbers_check(s),
+        Call::Take => Ok(()),
         Call::Change { plan, demand: _ } => change_checks(s, plan),
     }
+}
+
+#[tactic(auto, using(crate::proofs::Checked::checked))]
+pub fn call_checks(call: Call, s: Station, len: usize) -> Result<(), Refusal>
+    ensures { result ≡ call_checks call s len }
+{
+    queue_checks(s, len)?;
+    own_checks(call, s)
 }

@@ -2,8 +2,10 @@
 ghost use Rattle.std.specs.Prelude.{◌≡◌, ◌<◌};
 ghost use Rattle.rules.specs.Plan.{clearance_limit, highest_unit};
 ghost use Rattle.rules.specs.Screening.{start_screening, start_sampling, restart_raised, screened_good, need_after_defect, long_screening, defect_raised, screened_bad, after_find};
+ghost use Rattle.rules.specs.Sampling.{quietly};
 ghost use Rattle.station.specs.Fit.{Findable};
 
+use crate::events::{event, screening_defect, to_sampling, to_screening};
 use rules::{CSP_V, Event, Kind, Moved, Phase, Plan, Raised, Sampling, Screening};
 
 pub fn start_screening(need: u32) -> Phase
@@ -30,20 +32,23 @@ pub fn start_sampling(level: u32) -> Phase
     })
 }
 
+// Nothing is raised: a phase goes on, where in letter.rt a whole stream does. Moved and Ruled are two types of the definitions.
+pub fn quiet(phase: Phase) -> Moved
+    ensures { result ≡ quietly phase }
+{
+    Moved {
+        phase,
+        raised: Raised::Zero,
+    }
+}
+
 // A new screening sequence: its cause, then PHASE where sampling ends.
 pub fn restart_raised(cause: Event, unit: u32, phase: Phase) -> Raised
     ensures { result ≡ restart_raised cause unit phase }
 {
     match phase {
         Phase::Screen(_) => Raised::One(cause),
-        Phase::Sample(_) => Raised::Two(
-            cause,
-            Event {
-                kind: Kind::PhaseChange,
-                unit,
-                value: 0,
-            },
-        ),
+        Phase::Sample(_) => Raised::Two(cause, to_screening(unit)),
     }
 }
 
@@ -56,22 +61,15 @@ pub fn screened_good(unit: u32, c: Screening) -> Moved
     if run == c.need {
         return Moved {
             phase: start_sampling(0),
-            raised: Raised::One(Event {
-                kind: Kind::PhaseChange,
-                unit,
-                value: 1,
-            }),
+            raised: Raised::One(to_sampling(unit, 0)),
         };
     }
-    Moved {
-        phase: Phase::Screen(Screening {
-            need: c.need,
-            run,
-            screened: c.screened + 1,
-            unrecalled: c.unrecalled + 1,
-        }),
-        raised: Raised::None,
-    }
+    quiet(Phase::Screen(Screening {
+        run,
+        screened: c.screened + 1,
+        unrecalled: c.unrecalled + 1,
+        ..c
+    }))
 }
 
 #[tactic(auto, using(std::proofs::lemmas::Bool::Decides::nat_tests), unfolding(rules::specs::Screening::need_after_defect))]
@@ -81,33 +79,23 @@ fn need_after_defect(p: Plan, need: u32) -> u32
     if p.kind == CSP_V { p.i } else { need }
 }
 
-#[tactic(auto, using(record::proofs::Laws::as_tests), unfolding(rules::specs::Screening::long_screening))]
+#[tactic(auto, using(record::proofs::Laws::as_tests, record::proofs::Laws::known_tests, std::proofs::lemmas::Bool::Decides::nat_tests), unfolding(rules::specs::Screening::long_screening))]
 fn long_screening(p: Plan, screened: u32) -> bool
     ensures { result ≡ long_screening p screened }
 {
-    (p.s != 0) & (p.s <= screened)
+    p.s != 0 && p.s <= screened
 }
 
 #[tactic(auto, unfolding(rules::specs::Screening::defect_raised))]
 fn defect_raised(long: bool, unit: u32, screened: u32) -> Raised
     ensures { result ≡ defect_raised long unit screened }
 {
-    let defect = Event {
-        kind: Kind::Defect,
-        unit,
-        value: 0,
-    };
+    let defect = screening_defect(unit);
     if long {
-        return Raised::Two(
-            defect,
-            Event {
-                kind: Kind::Long,
-                unit,
-                value: screened,
-            },
-        );
+        Raised::Two(defect, event(Kind::Long, unit, screened))
+    } else {
+        Raised::One(defect)
     }
-    Raised::One(defect)
 }
 
 #[tactic(auto, unfolding(rules::specs::Screening::screened_bad))]
@@ -121,7 +109,7 @@ pub fn screened_bad(p: Plan, unit: u32, c: Screening) -> Moved
             need: need_after_defect(p, c.need),
             run: 0,
             screened,
-            unrecalled: c.unrecalled,
+            ..c
         }),
         raised: defect_raised(long_screening(p, screened), unit, screened),
     }
@@ -134,11 +122,10 @@ pub fn after_find(phase: Phase) -> Phase
 {
     match phase {
         Phase::Screen(c) => Phase::Screen(Screening {
-            need: c.need,
             run: 0,
-            screened: c.screened,
             unrecalled: c.unrecalled - 1,
+            ..c
         }),
-        Phase::Sample(m) => Phase::Sample(m),
+        Phase::Sample(_) => phase,
     }
 }
