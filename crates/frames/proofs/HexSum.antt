@@ -1,8 +1,9 @@
 -- A number is its digits' weights summed, limited to 2^32. Assumes nothing.
 use mathlib.Core.Path.{◌≡◌, refl, sym}
 use mathlib.Core.List.{List}
-use Prim.Native.Nat.{ℕ, zero, suc, ◌+◌, ◌*◌, ◌<◌, ◌≤◌, ◌^◌}
+use Prim.Native.Nat.{ℕ, zero, suc, ◌+◌, ◌-◌, ◌*◌, ◌<◌, ◌≤◌, ◌^◌}
 use native.Mathlib.Decide.{dec_lt}
+use native.Mathlib.Nat.{add-zero}
 use native.Mathlib.Omega.{arith}
 use lib.ListN.{get_or}
 use borrow.Author.Tests.{lt-ltb, le-ltb}
@@ -19,6 +20,28 @@ most b = grind (arith, nat_tests)
 -- a byte's weight in a table of all
 pub weighs_at : (t : List ℕ) (b : ℕ) → Weighs t → b < 256 → (get_or t b 0 ≡ weight b) × (get_or t b 0 ≤ 2 ^ 32)
 weighs_at t b w h = (w.each b h, rw (w.each b h) (most b))
+
+-- what so many digits weigh at most
+reach : ℕ → ℕ
+reach zero = 0
+reach (suc k) = reach k * 16 + 2 ^ 32
+
+sum_most : (line : List ℕ) (from k : ℕ) → sum line from k ≤ reach k
+unfolding sum reach
+sum_most line from zero = omega arith
+sum_most line from (suc k) = omega (arith, sum_most line from k, most (get_or line (from + k) 0))
+
+grows : (k j : ℕ) → reach k ≤ reach (k + j)
+unfolding reach
+grows k zero = rw add-zero (omega arith)
+grows k (suc j) = let e : k + suc j ≡ suc (k + j) = omega arith in rw e (omega (arith, grows k j))
+
+-- one more digit, up to eight, fits 64 bits
+pub sum_fits : (line : List ℕ) (from k : ℕ) → k < 8 → sum line from k * 16 + 2 ^ 32 < 2 ^ 64
+unfolding reach
+sum_fits line from k h =
+    let i : k + (7 - k) ≡ 7 = omega arith in let m : reach k ≤ reach 7 = rw i at (grows k (7 - k)) in
+    omega (arith, sum_most line from k, m)
 
 below : (v : ℕ) → v < 2 ^ 32 → limited v ≡ v
 unfolding limited

@@ -8,24 +8,20 @@ use native.Mathlib.Nat.{add-zero}
 use native.Mathlib.Omega.{arith}
 use lib.Dec.{eqb, ltb, leb}
 use lib.ListN.{length, take, drop, get_or, length-drop}
-use lib.Seq.{append_snoc, take_all, take-suc, take-add, split_at, length-take-le, get_or-take, get_or-drop, drop-drop, paste, take-paste, drop-paste}
+use lib.Seq.{append_snoc, take-suc, take-add, split_at, length-take-le, get_or-take, get_or-drop, drop-drop}
 use borrow.Author.Tests.{ne_eqb, ltb-true, ltb-false, leb-true, leb-false}
-use Rattle.rules.specs.Tests.{pick, within as from-to}
-use Rattle.rules.specs.Frames.{printed, reply, reading_reply, frame_reply, number_reply, seed_of, found_reply, table_reply, read_line}
-use Rattle.rules.specs.Tables.{look_up}
-use Rattle.rules.specs.declared.Found.{Found}
-use Rattle.rules.specs.declared.Found.TheVariants as found
-use Rattle.rules.specs.declared.Optional.{Optional}
-use Rattle.rules.specs.declared.Optional.TheVariants.{Given, LeftOff}
-use Rattle.rules.specs.declared.Frame.{Frame}
-use Rattle.rules.specs.declared.Frame.TheVariants.{Open, OpenTable, StationNumber, Call}
-use Rattle.rules.specs.declared.Reading.{Reading}
-use Rattle.rules.specs.declared.Reading.TheVariants.{Read, Bad}
+use Rattle.rules.specs.Tests.{pick}
+use Rattle.rules.specs.Frames.{answer_line, reply}
+use Rattle.rules.specs.declared.Reply.{Reply}
+use Rattle.rules.specs.declared.Refusal.{Refusal}
 use Rattle.rules.specs.declared.Session.{Session}
-use Rattle.rules.specs.declared.Values.{Values}
-use Rattle.frames.specs.Replies.{Gives, session_of}
+use Rattle.frames.specs.Replies.{Replies, replied, session_of}
+use Rattle.frames.specs.declared.session.Replied.{Replied}
 use Rattle.frames.specs.declared.session.Standing.{Standing}
 use Rattle.frames.specs.Course.{Course, after, walk, gone, LineEnd}
+use Rattle.std.specs.Prelude.{Result}
+use Rattle.std.proofs.lemmas.Slice.{take-put_mid, drop-put_mid}
+use borrow.Rule.Slice.PartMut.{mid_of, put_mid}
 
 -- what the tests of the loop tell: there are characters left and room for an answer, or one of them is not
 pub goes_on : (from n left : ℕ) → ltb from n && leb 33 left ≡ true → (from < n) × (33 ≤ left)
@@ -42,55 +38,22 @@ stops from n left e = go (ltb from n) (leb 33 left) (ltb-false from n) (leb-fals
     go true b f g e = let h = g e in inr (omega arith)
     go false b f g e = inl (f refl)
 
--- every answer has 33 characters
-printed_length : (v : Values) → length (printed v) ≡ 33
-unfolding printed
-printed_length v = refl
+-- the standing and the queue are those of a reply, and its line was put at an index
+pub record Put (p : Reply) (r : Standing) (queue before : List ℕ) (at : ℕ) (out : List ℕ) : Type 0 where
+  pub session : session_of r queue ≡ p.session
+  pub text : take (at + 33) out ≡ take at before ++ p.text
+  pub rest : drop (at + 33) out ≡ drop (at + 33) before
 
-found_length : (s : Session) (seed : ℕ) (f : Found) → length (found_reply s seed f).text ≡ 33
-found_length s seed (found.Plan p) = printed_length _
-found_length s seed found.Absent = printed_length _
-
-table_length : (s : Session) (seed : Optional) (f : Found) → length (table_reply s seed f).text ≡ 33
-table_length s (Given seed) f = found_length s seed f
-table_length s LeftOff f = printed_length _
-
-number_length : (b : Bool) (s : Session) (number : ℕ) → length (number_reply b s number).text ≡ 33
-number_length true s number = printed_length _
-number_length false s number = printed_length _
-
-frame_length : (b : Bool) (s : Session) (f : Frame) → length (frame_reply b s f).text ≡ 33
-frame_length true s (Open p seed) = printed_length _
-frame_length false s (Open p seed) = printed_length _
-frame_length true s (OpenTable kind letter aql period seed) = printed_length _
-frame_length false s (OpenTable kind letter aql period seed) = table_length s (seed_of seed s.number) (look_up kind letter aql period)
-frame_length true s (StationNumber number) = printed_length _
-frame_length false s (StationNumber number) = number_length (from-to 1 number 65535) s number
-frame_length true s (Call c) = printed_length _
-frame_length false s (Call c) = printed_length _
-
-reading_length : (s : Session) (r : Reading) → length (reading_reply s r).text ≡ 33
-reading_length s Bad = printed_length _
-reading_length s (Read f) = frame_length s.opened s f
-
-reply_length : (s : Session) (line : List ℕ) → length (reply s line).text ≡ 33
-reply_length s line = reading_length s (read_line line)
-
--- an answer that was put: it follows the answers before it, and what is behind it is as it was
-module _ (s : Session) (line before : List ℕ) (at : ℕ) (out : List ℕ) (h : at + 33 ≤ length before) (e : out ≡ paste before at (reply s line).text 33) where
-  told : take (at + 33) out ≡ take at before ++ (reply s line).text
-  told =
-      let t = (reply s line).text in let n = reply_length s line in
-      ap (λ (l : List ℕ). take (at + 33) l) e
-      ∙ take-paste before at t 33 (omega arith) (omega arith)
-      ∙ ap (λ (l : List ℕ). take at before ++ l) (take_all 33 t (omega arith))
-
-  pub behind : (first : List ℕ) → drop at before ≡ drop at first → drop (at + 33) out ≡ drop (at + 33) first
-  behind first q =
-      let n = reply_length s line in
-      ap (λ (l : List ℕ). drop (at + 33) l) e
-      ∙ drop-paste before at (reply s line).text 33 (omega arith) (omega arith)
-      ∙ sym (drop-drop 33 at before) ∙ ap (drop 33) q ∙ drop-drop 33 at first
+pub put : (p : Reply) (s : Standing) (r : Result Replied Refusal) (queue before room : List ℕ) (at : ℕ)
+    → Replies p s r queue → room ≡ answer_line (replied s r).answer → length room ≡ length (mid_of at (at + 33 - at) before) → at + 33 ≤ length before
+    → Put p (replied s r).standing queue before at (put_mid at (at + 33 - at) before room)
+put p s r queue before room at g e n h =
+    let k : length room ≡ at + 33 - at = omega (arith, n, length-take-le (at + 33 - at) (drop at before) (omega (arith, length-drop at before))) in
+    record {
+      session = g.session;
+      text = take-put_mid at (at + 33 - at) before room (at + 33) (omega arith) (omega arith) ∙ ap (λ (t : List ℕ). take at before ++ t) (e ∙ g.text);
+      rest = drop-put_mid at (at + 33 - at) before room (at + 33) (omega arith) (omega arith) k;
+    }
 
 -- a text in two parts
 pub joined : (s : Session) (line a d : List ℕ)
@@ -198,12 +161,11 @@ module _ (text : List ℕ) (from end : ℕ) (e : LineEnd text from end) where
         let n : length l ≡ end - from = length-take-le (end - from) (drop from text) (omega (arith, within)) in
         ap (gone (suc room) 0) ends ∙ gone_over room 0 l (drop (end + 1) text) plain ∙ omega (arith, e.low)
 
-    pub went : (s₀ : Session) (s : Session) (r : Standing) (queue before : List ℕ) (at : ℕ) (out : List ℕ) → at + 33 ≤ length before
+    pub went : (s₀ s : Session) (r : Standing) (queue before : List ℕ) (at : ℕ) (out : List ℕ)
         → walk s₀ [] (take from text) ≡ record { session = s; line = []; text = take at before }
-        → Gives (reply s (take (end - from) (drop from text))) r queue before at out
+        → Put (reply s (take (end - from) (drop from text))) r queue before at out
         → walk s₀ [] (take (end + 1) text) ≡ record { session = session_of r queue; line = []; text = take (at + 33) out }
-    went s₀ s r queue before at out i w g =
-        one_more_lem s₀ s (take at before) w ∙ rw (g.session, told s (take (end - from) (drop from text)) before at out i g.text)
+    went s₀ s r queue before at out w p = one_more_lem s₀ s (take at before) w ∙ rw (p.session, p.text)
 
 -- nothing more is gone over where no character is left, or no room
 pub gone_last : (text : List ℕ) (from room : ℕ) → (length text ≤ from) ⊎ (room ≡ 0) → gone room 0 (drop from text) ≡ 0

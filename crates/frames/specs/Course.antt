@@ -1,5 +1,5 @@
 -- The answers to a text, character by character.
-use Rattle.std.specs.Prelude.{ℕ, zero, suc, ◌+◌, ◌≤◌, ◌<◌, ◌≡◌, Bool, true, false, List, [], ◌∷◌, ◌++◌, eqb, length, get_or}
+use Rattle.std.specs.Prelude.{ℕ, zero, suc, ◌+◌, ◌≤◌, ◌<◌, ◌≡◌, List, [], ◌∷◌, ◌++◌, eqb, length, get_or}
 use Rattle.rules.specs.Tests.{pick}
 use Rattle.rules.specs.Frames.{reply}
 use Rattle.rules.specs.declared.Session.{Session}

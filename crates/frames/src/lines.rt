@@ -1,5 +1,7 @@
-// Where a line ends.
-ghost use Rattle.std.specs.Prelude.{true, false, ◌≡◌, ℕ, ◌+◌, ◌≤◌, ◌<◌, length, get_or};
+// Where a line ends. A text and an index go together, and not the rest of the text: an end is told from the start of it (LineEnd), and
+// the line is cut there.
+ghost use Rattle.std.specs.Prelude.{true, false, ◌≡◌, ℕ, ◌+◌, ◌≤◌, ◌<◌, ◌==◌, length, get_or};
+ghost use Rattle.std.specs.List.{list_any, position};
 ghost use Rattle.frames.specs.Course.{LineEnd};
 
 // A line feed among eight characters: one comparison of eight bytes, once compiled.
@@ -7,14 +9,20 @@ fn feed_in_eight(s: &[u8], i: usize) -> bool
     requires { i + 8 ≤ length s.now }
     ensures { result ≡ false → (k : ℕ) → k < i + 8 → i ≤ k → get_or s.now k 0 ≡ 10 → ⊥ }
 {
-    (s[i] == b'\n')
-        | (s[i + 1] == b'\n')
-        | (s[i + 2] == b'\n')
-        | (s[i + 3] == b'\n')
-        | (s[i + 4] == b'\n')
-        | (s[i + 5] == b'\n')
-        | (s[i + 6] == b'\n')
-        | (s[i + 7] == b'\n')
+    s[i..i + 8].contains(&b'\n')
+}
+
+fn first_feed(s: &[u8]) -> Option<usize>
+    ensures { result ≡ position (λ b. b == 10) s.now }
+{
+    s.iter().position(|&b| b == b'\n')
+}
+
+// The first eight characters of several that have one.
+fn first_eight(eights: &[[u8; 8]]) -> Option<usize>
+    ensures { result ≡ position (list_any (λ b. b == 10)) eights.now }
+{
+    eights.iter().position(|eight| eight.contains(&b'\n'))
 }
 
 // Eight characters after the other, as long as none of them is a line feed.
@@ -22,30 +30,25 @@ fn skipped(s: &[u8], from: usize) -> usize
     requires { from ≤ length s.now }
     ensures { (from ≤ result) × (result ≤ length s.now) × ((k : ℕ) → k < result → from ≤ k → get_or s.now k 0 ≡ 10 → ⊥) }
 {
-    let mut at = from;
-    while 8 <= s.len() - at {
-        let early = feed_in_eight(s, at);
-        if early {
-            return at;
-        }
-        at += 8;
+    let (eights, _) = s[from..].as_chunks::<8>();
+    match first_eight(eights) {
+        Some(i) => from + 8 * i,
+        None => from + 8 * eights.len(),
     }
-    at
 }
 
-// The index of the line feed at or after an index, or the length.
+// The index of the line feed at or after an index, or the length, and no None, where none is left: the walk ends there by itself, and
+// LineEnd says both of one number. Few lines are looked through for it.
+#[cold]
 fn scanned_end(s: &[u8], from: usize) -> usize
     requires { from ≤ length s.now }
     ensures { LineEnd s.now from result }
 {
-    let mut i = skipped(s, from);
-    while i < s.len() {
-        if s[i] == b'\n' {
-            return i;
-        }
-        i += 1;
+    let at = skipped(s, from);
+    match first_feed(&s[at..]) {
+        Some(i) => at + i,
+        None => s.len(),
     }
-    i
 }
 
 // The same, looked for first where the frames of most lines end: behind 2 characters, and behind 11.

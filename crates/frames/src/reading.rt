@@ -1,225 +1,170 @@
 // The frame that a line is.
-ghost use Rattle.std.specs.Prelude.{◌≡◌, ◌+◌, ◌*◌, ◌≤◌, length};
-ghost use Rattle.rules.specs.Frames.{hex, word, spaced, bare_frame, one_word_frame, table_frame, seeded_frame, plan_frame, seven_word_frame, frame_of, read_line};
-ghost use Rattle.frames.specs.Weights.{Weighs};
+ghost use Rattle.std.specs.Prelude.{◌≡◌, ◌+◌, ◌*◌, ◌≤◌, length, None};
+ghost use Rattle.rules.specs.Frames.{hex, word, bare_frame, one_word_frame, table_frame, seeded_frame, plan_frame, seven_word_frame, frame_of, read_line};
+ghost use Rattle.frames.specs.Weights.{sum, as_word};
 
-use crate::digits;
-use crate::digits::NONE;
-use rules::{Call, Frame, Optional, Plan, Reading};
+use crate::digits::Weights;
+use rules::{Call, Frame, Plan};
 
-#[tactic(auto, using(std::proofs::lemmas::Bool::Decides::nat_tests), unfolding(rules::specs::Frames::spaced))]
-fn spaced(space: u8, v: u64) -> u64
-    ensures { result ≡ spaced space v }
-{
-    if space == b' ' { v } else { NONE }
+// A line, its line feed left off, and what its digits weigh.
+#[derive(Clone, Copy)]
+pub struct Line<'a> {
+    pub weights: Weights<'a>,
+    pub text: &'a [u8],
 }
 
-// Word j of a line.
-fn word(weights: &[u64], line: &[u8], j: usize) -> u64
-    requires { Weighs weights.now × (11 + 9 * j ≤ length line.now) }
-    ensures { result ≡ word line.now j }
-{
-    let at = 2 + 9 * j;
-    spaced(line[at], digits::hex8(weights, line, 3 + 9 * j))
-}
-
+// A code is a number and no enum: whatever two digits say is read, and what is no frame's is None.
 #[tactic(auto, using(std::proofs::lemmas::Bool::Decides::nat_tests), unfolding(rules::specs::Frames::bare_frame))]
-fn bare_frame(code: u64) -> Reading
+fn bare_frame(code: u32) -> Option<Frame>
     ensures { result ≡ bare_frame code }
 {
-    if code == 4 {
-        return Reading::Read(Frame::Call(Call::Interrupt));
+    match code {
+        4 => Some(Frame::Call(Call::Interrupt)),
+        5 => Some(Frame::Call(Call::CheckFind)),
+        6 => Some(Frame::Call(Call::Tick)),
+        7 => Some(Frame::Call(Call::Take)),
+        _ => None,
     }
-    if code == 5 {
-        return Reading::Read(Frame::Call(Call::CheckFind));
-    }
-    if code == 6 {
-        return Reading::Read(Frame::Call(Call::Tick));
-    }
-    if code == 7 {
-        return Reading::Read(Frame::Call(Call::Take));
-    }
-    Reading::Bad
 }
 
 #[tactic(auto, using(std::proofs::lemmas::Bool::Decides::nat_tests), unfolding(rules::specs::Frames::one_word_frame, rules::specs::Frames::is_word))]
-fn one_word_frame(code: u64, a: u64) -> Reading
+fn one_word_frame(code: u32, a: u32) -> Option<Frame>
     ensures { result ≡ one_word_frame code a }
 {
-    if NONE <= a {
-        return Reading::Bad;
+    match code {
+        2 => Some(Frame::Call(Call::Unit(a))),
+        3 => Some(Frame::Call(Call::Result(a))),
+        10 => Some(Frame::StationNumber(a)),
+        _ => None,
     }
-    if code == 2 {
-        return Reading::Read(Frame::Call(Call::Unit(a as u32)));
-    }
-    if code == 3 {
-        return Reading::Read(Frame::Call(Call::Result(a as u32)));
-    }
-    if code == 10 {
-        return Reading::Read(Frame::StationNumber(a as u32));
-    }
-    Reading::Bad
-}
-
-#[tactic(auto, using(std::proofs::lemmas::Bool::Decides::nat_tests, crate::proofs::Tests::both), unfolding(rules::specs::Frames::table_frame, rules::specs::Frames::is_word))]
-fn table_frame(code: u64, kind: u64, letter: u64, aql: u64, period: u64, seed: Optional) -> Reading
-    ensures { result ≡ table_frame code kind letter aql period seed }
-{
-    if code != 8 {
-        return Reading::Bad;
-    }
-    if NONE <= kind {
-        return Reading::Bad;
-    }
-    if NONE <= letter {
-        return Reading::Bad;
-    }
-    if NONE <= aql {
-        return Reading::Bad;
-    }
-    if NONE <= period {
-        return Reading::Bad;
-    }
-    Reading::Read(Frame::OpenTable {
-        kind: kind as u32,
-        letter: letter as u32,
-        aql: aql as u32,
-        period: period as u32,
-        seed: seed,
-    })
-}
-
-#[tactic(auto, using(std::proofs::lemmas::Bool::Decides::nat_tests), unfolding(rules::specs::Frames::seeded_frame, rules::specs::Frames::is_word))]
-fn seeded_frame(code: u64, kind: u64, letter: u64, aql: u64, period: u64, seed: u64) -> Reading
-    ensures { result ≡ seeded_frame code kind letter aql period seed }
-{
-    if NONE <= seed {
-        return Reading::Bad;
-    }
-    let given = Optional::Given(seed as u32);
-    table_frame(code, kind, letter, aql, period, given)
 }
 
 // A plan and a seed, or a plan and 0 or 1, on demand.
 #[tactic(auto, using(std::proofs::lemmas::Bool::Decides::nat_tests, crate::proofs::Tests::both), unfolding(rules::specs::Frames::plan_frame))]
-fn plan_frame(code: u64, plan: Plan, last: u32) -> Reading
+fn plan_frame(code: u32, plan: Plan, last: u32) -> Option<Frame>
     ensures { result ≡ plan_frame code plan last }
 {
-    if code == 1 {
-        return Reading::Read(Frame::Open {
-            plan: plan,
-            seed: last,
-        });
-    }
-    if (code == 9) & (last <= 1) {
-        return Reading::Read(Frame::Call(Call::Change {
-            plan: plan,
+    match code {
+        1 => Some(Frame::Open { plan, seed: last }),
+        9 if last <= 1 => Some(Frame::Call(Call::Change {
+            plan,
             demand: last == 1,
-        }));
+        })),
+        _ => None,
     }
-    Reading::Bad
 }
 
-#[tactic(auto, using(std::proofs::lemmas::Bool::Decides::nat_tests, crate::proofs::Tests::both), unfolding(rules::specs::Frames::seven_word_frame, rules::specs::Frames::is_word))]
-fn seven_word_frame(
-    code: u64,
-    kind: u64,
-    n: u64,
-    i: u64,
-    s: u64,
-    x: u64,
-    period: u64,
-    last: u64,
-) -> Reading
-    ensures { result ≡ seven_word_frame code kind n i s x period last }
-{
-    if NONE <= kind {
-        return Reading::Bad;
+impl Line<'_> {
+    // N digits from an index on, summed with no test between them. The loop counts: two must-fail edits read a digit out of turn by it.
+    #[tactic(auto, using(crate::proofs::HexSum::sum_fits), unfolding(crate::specs::Weights::sum))]
+    fn sum<const N: usize>(self, from: usize) -> u64
+        requires { (N ≤ 8) × (from + N ≤ length self.text.now) }
+        ensures { result ≡ sum self.entry.text.now from N }
+    {
+        let mut sum = 0;
+        for k in 0..N {
+            sum = sum * 16 + self.weights.of(self.text[from + k]);
+        }
+        sum
     }
-    if NONE <= n {
-        return Reading::Bad;
-    }
-    if NONE <= i {
-        return Reading::Bad;
-    }
-    if NONE <= s {
-        return Reading::Bad;
-    }
-    if NONE <= x {
-        return Reading::Bad;
-    }
-    if NONE <= period {
-        return Reading::Bad;
-    }
-    if NONE <= last {
-        return Reading::Bad;
-    }
-    let plan = Plan {
-        kind: kind as u32,
-        n: n as u32,
-        i: i as u32,
-        s: s as u32,
-        x: x as u32,
-        period: period as u32,
-    };
-    plan_frame(code, plan, last as u32)
-}
 
-// A frame of four words or more.
-#[tactic(auto, using(std::proofs::lemmas::Bool::Decides::nat_tests), unfolding(rules::specs::Frames::frame_of))]
-fn longer_frame(weights: &[u64], line: &[u8]) -> Reading
-    requires { Weighs weights.now × (length line.now ≡ 2 → ⊥) × (length line.now ≡ 11 → ⊥) }
-    ensures { result ≡ frame_of line.now }
-{
-    let n = line.len();
-    if n == 38 {
-        return table_frame(
-            digits::hex2(weights, line, 0),
-            word(weights, line, 0),
-            word(weights, line, 1),
-            word(weights, line, 2),
-            word(weights, line, 3),
-            Optional::LeftOff,
-        );
+    // The number that they are.
+    #[tactic(auto, using(std::proofs::lemmas::Bool::Decides::nat_tests, crate::proofs::HexSum::hex_sum), unfolding(rules::specs::Frames::is_word, crate::specs::Weights::limited))]
+    fn hex<const N: usize>(self, from: usize) -> Option<u32>
+        requires { (N ≤ 8) × (from + N ≤ length self.text.now) }
+        ensures { result ≡ as_word (hex self.entry.text.now from N) }
+    {
+        u32::try_from(self.sum::<N>(from)).ok()
     }
-    if n == 47 {
-        return seeded_frame(
-            digits::hex2(weights, line, 0),
-            word(weights, line, 0),
-            word(weights, line, 1),
-            word(weights, line, 2),
-            word(weights, line, 3),
-            word(weights, line, 4),
-        );
-    }
-    if n == 65 {
-        return seven_word_frame(
-            digits::hex2(weights, line, 0),
-            word(weights, line, 0),
-            word(weights, line, 1),
-            word(weights, line, 2),
-            word(weights, line, 3),
-            word(weights, line, 4),
-            word(weights, line, 5),
-            word(weights, line, 6),
-        );
-    }
-    Reading::Bad
-}
 
-// The frame that a line is, its line feed left off: that it has 11 characters is tested first, since most have. No frame has over 80,
-// so that a longer line needs no test of its own.
-#[tactic(auto, using(std::proofs::lemmas::Bool::Decides::nat_tests), unfolding(rules::specs::Frames::frame_of, rules::specs::Frames::read_line))]
-pub fn read_line(weights: &[u64], line: &[u8]) -> Reading
-    requires { Weighs weights.now }
-    ensures { result ≡ read_line line.now }
-{
-    let n = line.len();
-    if n == 11 {
-        return one_word_frame(digits::hex2(weights, line, 0), word(weights, line, 0));
+    fn code(self) -> Option<u32>
+        requires { 2 ≤ length self.text.now }
+        ensures { result ≡ as_word (hex self.entry.text.now 0 2) }
+    {
+        self.hex::<2>(0)
     }
-    if n == 2 {
-        return bare_frame(digits::hex2(weights, line, 0));
+
+    // Word j of the line. A call of it would cost some 15 instructions a frame.
+    #[tactic(auto, using(std::proofs::lemmas::Bool::Decides::nat_tests), unfolding(rules::specs::Frames::spaced, rules::specs::Frames::is_word))]
+    #[inline(always)]
+    fn word(self, j: usize) -> Option<u32>
+        requires { 11 + 9 * j ≤ length self.text.now }
+        ensures { result ≡ as_word (word self.entry.text.now j) }
+    {
+        if self.text[2 + 9 * j] != b' ' {
+            return None;
+        }
+        self.hex::<8>(3 + 9 * j)
     }
-    longer_frame(weights, line)
+
+    // Left to the compiler it is a call, and then the line lies in memory for it: 13 instructions of every frame.
+    #[tactic(auto, using(std::proofs::lemmas::Bool::Decides::nat_tests, crate::proofs::Tests::both), unfolding(rules::specs::Frames::table_frame, rules::specs::Frames::is_word))]
+    #[inline(always)]
+    fn table_frame(self, seed: Option<u32>) -> Option<Frame>
+        requires { 38 ≤ length self.text.now }
+        ensures { let l = self.entry.text.now in result ≡ table_frame (hex l 0 2) (word l 0) (word l 1) (word l 2) (word l 3) seed }
+    {
+        if self.code()? != 8 {
+            return None;
+        }
+        Some(Frame::OpenTable {
+            kind: self.word(0)?,
+            letter: self.word(1)?,
+            aql: self.word(2)?,
+            period: self.word(3)?,
+            seed,
+        })
+    }
+
+    #[tactic(auto, using(std::proofs::lemmas::Bool::Decides::nat_tests), unfolding(rules::specs::Frames::seeded_frame, rules::specs::Frames::is_word))]
+    fn seeded_frame(self) -> Option<Frame>
+        requires { 47 ≤ length self.text.now }
+        ensures { let l = self.entry.text.now in result ≡ seeded_frame (hex l 0 2) (word l 0) (word l 1) (word l 2) (word l 3) (word l 4) }
+    {
+        let seed = self.word(4)?;
+        self.table_frame(Some(seed))
+    }
+
+    #[tactic(auto, using(std::proofs::lemmas::Bool::Decides::nat_tests, crate::proofs::Tests::both), unfolding(rules::specs::Frames::seven_word_frame, rules::specs::Frames::plan_frame, rules::specs::Frames::is_word))]
+    fn seven_word_frame(self) -> Option<Frame>
+        requires { 65 ≤ length self.text.now }
+        ensures { let l = self.entry.text.now in result ≡ seven_word_frame (hex l 0 2) (word l 0) (word l 1) (word l 2) (word l 3) (word l 4) (word l 5) (word l 6) }
+    {
+        let code = self.code()?;
+        let plan = Plan {
+            kind: self.word(0)?,
+            n: self.word(1)?,
+            i: self.word(2)?,
+            s: self.word(3)?,
+            x: self.word(4)?,
+            period: self.word(5)?,
+        };
+        plan_frame(code, plan, self.word(6)?)
+    }
+
+    // A frame of four words or more.
+    #[tactic(auto, using(std::proofs::lemmas::Bool::Decides::nat_tests), unfolding(rules::specs::Frames::frame_of))]
+    fn longer_frame(self) -> Option<Frame>
+        requires { (length self.text.now ≡ 2 → ⊥) × (length self.text.now ≡ 11 → ⊥) }
+        ensures { result ≡ frame_of self.entry.text.now }
+    {
+        match self.text.len() {
+            38 => self.table_frame(None),
+            47 => self.seeded_frame(),
+            65 => self.seven_word_frame(),
+            _ => None,
+        }
+    }
+
+    // The frame that the line is. No frame has over 80 characters, so that a longer line needs no test of its own.
+    #[tactic(auto, using(std::proofs::lemmas::Bool::Decides::nat_tests), unfolding(rules::specs::Frames::frame_of, rules::specs::Frames::read_line, rules::specs::Frames::bare_frame, rules::specs::Frames::one_word_frame, rules::specs::Frames::is_word))]
+    pub fn frame(self) -> Option<Frame>
+        ensures { result ≡ read_line self.entry.text.now }
+    {
+        match self.text.len() {
+            2 => bare_frame(self.code()?),
+            11 => one_word_frame(self.code()?, self.word(0)?),
+            _ => self.longer_frame(),
+        }
+    }
 }

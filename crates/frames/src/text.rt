@@ -4,9 +4,11 @@ ghost use Rattle.frames.specs.Replies.{session_of};
 ghost use Rattle.frames.specs.Walks.{Walks};
 ghost use Rattle.frames.specs.Weights.{Weighs};
 
-use crate::digits::fill;
+use crate::digits::{Weights, fill};
 use crate::lines::line_end;
-use crate::session::{Standing, step};
+use crate::printing::{answer_line, refusal_line};
+use crate::reading::Line;
+use crate::session::{Standing, line_reply};
 
 // How much of the text was answered, and how many bytes are the answers.
 #[derive(Drop)]
@@ -16,16 +18,30 @@ pub struct Walked {
     pub at: usize,
 }
 
+// A line put into its room. The array is assigned: copy_from_slice took 38 instructions more. Nothing is known of what is written to a
+// chunk that is borrowed from a part of the output, so that this is a function.
+fn put(room: &mut [u8], line: [u8; 33])
+    requires { length room.old ≡ 33 }
+    ensures { room.new ≡ line }
+{
+    let Some(room) = room.as_mut_array::<33>() else {
+        unreachable!()
+    };
+    *room = line;
+}
+
 // The lines one after the other, as long as the output has room for another answer. Here alone the whole record goes from line to
-// line: with one caller of step it is never laid out in memory for a call.
+// line: with one caller of line_reply it is never laid out in memory for a call. So this loop puts the answers too, and each kind in an
+// arm of its own, by which a refusal leaves the record where it is: a function between took 11 instructions more. It ends with a return
+// at a line that has not ended, and not with a break: that took up to 5 more. Text and output are gone over at different paces, and from
+// and at are answered, so that no iterator counts them.
 fn walk_lines(
     standing: Standing,
     q: &mut [u32],
-    weights: &[u64],
+    weights: Weights,
     text: &[u8],
     out: &mut [u8],
 ) -> Walked
-    requires { Weighs weights.now }
     ensures { Walks (session_of standing q.old) text.now result q.new out.old out.new }
 {
     let mut s = standing;
@@ -40,7 +56,18 @@ fn walk_lines(
                 at,
             };
         }
-        s = step(s, q, weights, &text[from..end], out, at);
+        let room = &mut out[at..at + 33];
+        let line = Line {
+            weights,
+            text: &text[from..end],
+        };
+        match line_reply(s, q, line) {
+            Ok(replied) => {
+                s = replied.standing;
+                put(room, answer_line(replied.answer));
+            }
+            Err(refusal) => put(room, refusal_line(refusal)),
+        }
         at += 33;
         from = end + 1;
     }
@@ -63,5 +90,5 @@ pub fn walk(
     ensures { Walks (session_of standing q.old) text.now result q.new out.old out.new × Weighs weights.new }
 {
     fill(weights);
-    walk_lines(standing, q, weights, text, out)
+    walk_lines(standing, q, Weights { table: weights }, text, out)
 }
