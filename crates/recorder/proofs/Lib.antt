@@ -1,6 +1,5 @@
 pub mod Alike
 pub mod Streams
 pub mod Output
-pub mod Moving
 pub mod Running
 pub mod Turning

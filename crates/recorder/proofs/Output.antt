@@ -1,6 +1,6 @@
 -- However the input is cut into parts, what is written is what the definitions say of the whole. Assumes nothing.
 use mathlib.Core.Path.{◌≡◌, refl, sym, ap, subst, ◌∙◌}
-use mathlib.Core.Bool.{Bool, true, false}
+use mathlib.Core.Bool.{Bool, true, false, not}
 use mathlib.Core.List.{List, [], ◌∷◌, ◌++◌, append-nil, append_assoc}
 use Prim.Native.Nat.{ℕ, ◌<◌, ◌≤◌}
 use native.Mathlib.Decide.{dec_lt}
@@ -8,7 +8,7 @@ use native.Mathlib.Omega.{arith}
 use lib.Dec.{eqb}
 use lib.ListN.{length, take, length-take}
 use lib.Seq.{append_snoc, take_all, take-append-le, take-take}
-use Rattle.std.specs.Prelude.{Option}
+use Rattle.std.specs.Prelude.{Option, IsNone, is_none}
 use Rattle.std.specs.Io.KnownBytes.{Appends, Consumes}
 use Rattle.rules.specs.Tests.{pick}
 use Rattle.rules.specs.Frames.{reply, new_session, last_text, lines_of, cut_at, joined_to, output, program}
@@ -131,19 +131,19 @@ answers_program parts = in_turns new_session [] parts ∙ said new_session [] (w
     none lines l = rw l.are
 
 -- what a last turn handed on at the end of the input
-last_text_lem : (over : Bool) (s : Session) (line part : List ℕ) (r : Turned) (queue held out : List ℕ) → over ≡ true → r.handed.all ≡ true
-    → Turns (turn over s line part) r queue held out → take r.handed.bytes out ≡ last_text line
+last_text_lem : (over : Bool) (s : Session) (line part : List ℕ) (r : Turned) (queue left out : List ℕ) → over ≡ true → r.handed.all ≡ true
+    → Turns (turn over s line part) r queue left out → take r.handed.bytes out ≡ last_text line
 last_text_lem true s line part r queue held out e a t =
-    t.text ∙ take_all r.handed.bytes (last_text line) (omega (arith, t.handed.whole a))
+    t.said ∙ take_all r.handed.bytes (last_text line) (omega (arith, t.handed.whole a))
 last_text_lem false s line part r queue held out e a t = cc
 
 -- a run that ended with the input, and whose writes took all, has handed on what the definitions say of the whole input
-module _ (r : Turned) (queue front out : List ℕ) (unread rest log grown : Option (List ℕ)) (k : Ran r queue front out unread rest log grown)
-    (e : r.came.over ≡ true) (a : r.handed.all ≡ true) where
+module _ (r : Turned) (queue text out : List ℕ) (unread rest log grown : Option (List ℕ)) (k : Ran r queue text out unread rest log grown)
+    (e : IsNone r.came) (a : r.handed.all ≡ true) where
   pub ran_program : (course k.parts).text ++ take r.handed.bytes out ≡ program (whole k.parts)
   ran_program =
       let c = course k.parts in
-      ap (λ (t : List ℕ). c.text ++ t) (last_text_lem r.came.over c.session c.line k.part r queue front out e a k.last)
+      ap (λ (t : List ℕ). c.text ++ t) (last_text_lem (is_none r.came) c.session c.line k.part r queue text out (ap not e) a k.last)
       ∙ answers_program k.parts
 
   pub served : Served unread rest log grown

@@ -1,5 +1,6 @@
 -- The program's output, read by read.
 use Rattle.std.specs.Prelude.{ℕ, Bool, true, false, List, [], ◌∷◌, ◌++◌, take}
+use Rattle.rules.specs.Tests.{pick}
 use Rattle.rules.specs.Frames.{new_session, last_text}
 use Rattle.rules.specs.declared.Session.{Session}
 use Rattle.frames.specs.Course.{Course, after, walk}
@@ -7,6 +8,11 @@ use Rattle.frames.specs.Course.{Course, after, walk}
 -- of a line over 80 characters no more is held than tells it from a shorter one
 abbrev pub held_most : ℕ
 held_most = 81
+
+-- what is kept of what is not answered: all of it where an answer had no room, so that lines may be left in it; else no more of the
+-- line that has not ended
+abbrev pub kept : Bool → List ℕ → List ℕ
+kept more rest = pick more rest (take held_most rest)
 
 -- a turn of the program: the lines that end in what a read brought are answered, and at the end of the input the line that is left
 abbrev pub turn : Bool → Session → List ℕ → List ℕ → Course

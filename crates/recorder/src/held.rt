@@ -1,33 +1,70 @@
-// What has come and is not answered: it stands at the front of the text.
-ghost use Rattle.std.specs.Prelude.{◌≡◌, ◌++◌, ◌+◌, ◌-◌, ◌≤◌, min, length, take, drop};
-ghost use Rattle.std.proofs.Math.Seq.{paste};
+// What has come and is not answered.
+ghost use Rattle.std.specs.Prelude.{◌≡◌, [], ◌++◌, ◌+◌, ◌≤◌, min, length, take, drop};
 ghost use Rattle.rules.specs.Tests.{pick};
-ghost use Rattle.recorder.specs.Course.{held_most};
+ghost use Rattle.recorder.specs.Course.{held_most, kept};
 
-pub fn least(a: usize, b: usize) -> usize
-    ensures { (result ≡ min a b) × (result ≤ a) × (result ≤ b) }
-{
-    if a < b { a } else { b }
+use std::marker::Model;
+
+// The most that a read brings.
+pub const CHUNK: usize = 8192;
+
+// What tells a line from one of 80 characters.
+const HELD: usize = 81;
+
+// A read's bytes, and what was held of a line before it with them.
+const TEXT: usize = HELD + CHUNK;
+
+// The first bytes of a memory, which is fixed, since the program has no heap. Clauses see the list of them.
+#[derive(Drop)]
+pub struct Text {
+    bytes: [u8; TEXT],
+    len: usize,
 }
 
-// Characters put at an index.
-#[tactic(auto, using(std::proofs::lemmas::List::Edits::paste_more))]
-pub fn put(text: &mut [u8], at: usize, part: &[u8], n: usize)
-    requires { (at + n ≤ length text.old) × (n ≤ length part.now) }
-    ensures { text.new ≡ paste text.old at part.now n }
-{
-    for k in 0..n {
-        text[at + k] = part[k];
+impl Model for Text {
+    ghost use Rattle.std.specs.Prelude.{ℕ, ◌≤◌, List, length, take};
+
+    ghost Value = { List ℕ };
+
+    ghost view = { λ t. take t.len t.bytes };
+
+    ghost invariant = { λ t. t.len ≤ length t.bytes };
+}
+
+impl Text {
+    pub fn new() -> Self
+        ensures { result ≡ [] }
+    {
+        Text {
+            bytes: [0; TEXT],
+            len: 0,
+        }
     }
-}
 
-// Characters from an index on, moved to the front.
-fn move_front(text: &mut [u8], from: usize, n: usize)
-    requires { from + n ≤ length text.old }
-    ensures { take n text.new ≡ take n (drop from text.old) }
-{
-    for k in 0..n {
-        text[k] = text[from + k];
+    pub fn as_slice(&self) -> &[u8]
+        ensures { result.now ≡ self.now }
+    {
+        &self.bytes[..self.len]
+    }
+
+    // Bytes put behind what is there.
+    pub fn put(&mut self, part: &[u8])
+        requires { length self.old + length part.now ≤ TEXT }
+        ensures { self.new ≡ self.old ++ part.now }
+    {
+        let to = self.len + part.len();
+        self.bytes[self.len..to].copy_from_slice(part);
+        self.len = to;
+    }
+
+    // What is kept of the bytes from an index on is moved to the front.
+    pub fn keep(&mut self, from: usize, more: bool)
+        requires { from ≤ length self.old }
+        ensures { self.new ≡ kept more (drop from self.old) }
+    {
+        let n = kept(more, self.len - from);
+        move_front(&mut self.bytes, from, n);
+        self.len = n;
     }
 }
 
@@ -35,17 +72,14 @@ fn move_front(text: &mut [u8], from: usize, n: usize)
 fn kept(more: bool, left: usize) -> usize
     ensures { (result ≡ pick more left (min held_most left)) × (result ≤ left) }
 {
-    if more {
-        return left;
-    }
-    least(81, left)
+    if more { left } else { left.min(HELD) }
 }
 
-pub fn keep(text: &mut [u8], from: usize, to: usize, more: bool) -> usize
-    requires { (from ≤ to) × (to ≤ length text.old) }
-    ensures { (result ≡ pick more (to - from) (min held_most (to - from))) × (result ≤ to - from) × (take result text.new ≡ take result (drop from text.old)) }
+// Characters from an index on, moved to the front. By an index: what is moved and where it goes are parts of one text, which cannot be
+// lent twice.
+fn move_front(text: &mut [u8], from: usize, n: usize)
+    requires { from + n ≤ length text.old }
+    ensures { take n text.new ≡ take n (drop from text.old) }
 {
-    let n = kept(more, to - from);
-    move_front(text, from, n);
-    n
+    text.copy_within(from..from + n, 0);
 }

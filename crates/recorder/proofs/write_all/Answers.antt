@@ -1,21 +1,18 @@
 -- What a write took stands behind what the writes before it took.
-use Rattle.std.proofs.Common.{◌≡◌, ℕ, ◌-◌, List, length, take, drop, arith}
-use Rattle.std.proofs.Math.Seq.{take_all}
-use Rattle.std.proofs.Common.{length-drop}
+use Rattle.std.proofs.Common.{◌≡◌, ℕ, Option, unwrap_or, length, length-drop, ap, arith}
+use Rattle.std.proofs.lemmas.Slice.{between_to_end}
 use Rattle.recorder.proofs.Streams.{written}
 use Rattle.recorder.proofs.write_all.Goals as goal
 
-rest : (text : List ℕ) (done : ℕ) → take (length text - done) (drop done text) ≡ drop done text
-rest text done = take_all (length text - done) (drop done text) (simp length-drop (omega arith))
-
-pub returns-then-last-clause-bytes : goal.returns-then-last-clause-bytes
-returns-then-last-clause-bytes g c =
-    let t = c.args.text.now in let n = c.loop-done.done in let w = c.write in
-    written w.result t n c.came_to-got.result _ _ _ _ (rest t n) c.loop-done.invariant.1 c.came_to-got.ensures w.ensures.bound w.ensures.bytes
-
-pub loop-done-preserved : goal.loop-done-preserved
-loop-done-preserved g c =
-    let t = c.args.text.now in let n = c.loop-done.done in let w = c.write in (
+pub loop-preserved : goal.loop-preserved
+loop-preserved g c =
+    let t = c.args.text.now in let n = c.loop.done in let w = c.write in
+    let more : unwrap_or c.came_to.result 0 ≡ c.in-Some.n = ap (λ (r : Option ℕ). unwrap_or r 0) c.in-Some.is in (
       omega (arith, length-drop {A = ℕ}),
-      written w.result t n c.came_to-got.result _ _ _ _ (rest t n) c.loop-done.invariant.1 c.came_to-got.ensures w.ensures.bound w.ensures.bytes,
+      written w.result t n c.in-Some.n _ _ _ _ c.in-Some.is _ (between_to_end t n (length t) (omega arith)) c.loop.invariant.1 c.came_to.ensures w.ensures.bound w.ensures.bytes,
     )
+
+pub returns-in-Some-clause-bytes : goal.returns-in-Some-clause-bytes
+returns-in-Some-clause-bytes g c =
+    let t = c.args.text.now in let n = c.loop.done in let w = c.write in
+    written w.result t n c.in-Some.n _ _ _ _ c.in-Some.is _ (between_to_end t n (length t) (omega arith)) c.loop.invariant.1 c.came_to.ensures w.ensures.bound w.ensures.bytes
