@@ -2,50 +2,31 @@
 // with room for C entries, and ticks and takes once a turn. Prints how many events were raised.
 #![tactic(auto)]
 
-ghost use Rattle.std.specs.Prelude.{◌≤◌, ◌≡◌, length};
-
 use rules::{Plan, Station};
 use std::io;
 use std::io::Read;
 
-// A decimal number and where it ends; no more than nine digits are read.
-#[derive(Drop)]
-struct Number {
-    value: u32,
-    end: usize,
-}
+// The words of the largest queue, which has 4,096 entries of three.
+const MOST_WORDS: usize = 12_288;
 
-fn parse(text: &[u8], from: usize) -> Number
-    requires { from ≤ length text.now }
-    ensures { result.end ≤ length text.now }
-{
-    let mut value: u32 = 0;
-    let mut end = from;
-    while end < text.len() {
-        let b = text[end];
-        if b < b'0' {
-            return Number { value, end };
+// A decimal number, and the text behind it; no more than nine digits are read.
+fn number(text: &[u8]) -> (u32, &[u8]) {
+    let mut value = 0;
+    for (at, b) in text.iter().enumerate() {
+        match char::from(*b).to_digit(10) {
+            Some(digit) if value < 100_000_000 => value = 10 * value + digit,
+            _ => return (value, &text[at..]),
         }
-        if b'9' < b {
-            return Number { value, end };
-        }
-        if 99999999 < value {
-            return Number { value, end };
-        }
-        value = value * 10 + ((b - b'0') as u32);
-        end += 1;
     }
-    Number { value, end }
+    (value, &[])
 }
 
 // Turns of a tick and a take.
 fn turns(opened: Station, q: &mut [u32], count: u32) -> u32 {
     let mut s = opened;
-    for _turn in 0..count {
-        let ticked = station::tick(s, q);
-        let t = ticked.station;
-        let taken = station::take(t, q);
-        s = taken.station;
+    for _ in 0..count {
+        s = station::tick(s, q).station;
+        s = station::take(s, q).station;
     }
     s.numbers.next
 }
@@ -59,33 +40,22 @@ fn measured(q: &mut [u32], count: u32) -> u32 {
         x: 0,
         period: 0,
     };
-    let opened = station::open(plan, 1, q);
-    let s = opened.station;
-    turns(s, q, count)
+    turns(station::open(plan, 1, q).station, q, count)
 }
 
-fn words() -> [u32; 12288]
-    ensures { length result ≡ 12288 }
-{
-    [0; 12288]
-}
-
+// What one read brings is all that is looked at, so 64 bytes are enough.
 fn main(rt: HostRuntime) -> io::Result<()> {
-    let mut reader = rt.stdin();
     let mut text = [0u8; 64];
-    let n = reader.read(&mut text)?;
-    let asked = &text[0..n];
-    let room = parse(asked, 0);
-    let end = room.end;
-    if n <= end {
+    let n = rt.stdin().read(&mut text)?;
+    let (room, rest) = number(&text[..n]);
+    let Some((_, rest)) = rest.split_first() else {
         return Ok(());
-    }
-    let count = parse(asked, end + 1);
-    let mut q = words();
-    let len = 3 * (room.value as usize);
-    if 12288 < len {
+    };
+    let (count, _) = number(rest);
+    let mut words = [0u32; MOST_WORDS];
+    let Some(queue) = words.get_mut(..3 * room as usize) else {
         return Ok(());
-    }
-    let next = measured(&mut q[0..len], count.value);
+    };
+    let next = measured(queue, count);
     print!(rt; "{next}")
 }
