@@ -98,9 +98,22 @@ def check(report, pair, options):
     report.check(refusal_of_function(log((OTHERS, FACTS[0])), 'draw', 'product'), 'must-fail: an error of another function counts')
     report.check(refusal_of_function(log((OWN, FACTS[0]), verdict='proved'), 'draw', 'product'), 'must-fail: a proved function counts')
     report.check(refusal_of_function(log((OWN, FACTS[0])), 'draw', 'step'), 'must-fail: a function that is not named counts')
+    check_bent_twice(report)
     check_definitions(report)
     check_edits(report)
     return f'{len(FACTS)} ways to say that a fact fails, {len(MISFITS)} to say that files do not fit'
+
+
+def check_bent_twice(report):
+    """A function that an edit bends twice: two of its facts have to fail."""
+    twice = log(verdict='no proof: expected answers in p; `search` did not prove `returns`, `returns-2`; it calls `draw::step`')
+    for what, said, good in (
+        ('one search fails', log(verdict='no proof: expected answers in p; `search` did not prove `returns`; it calls `draw::step`'), False),
+        ('two searches fail', twice, True),
+        ('one answer fails', log((OWN, FACTS[0])), False),
+        ('one answer and one search fail', log((OWN, FACTS[7]), verdict='no proof: `search` did not prove `returns`'), True),
+    ):
+        report.check((refusal_of_function(said, 'draw', 'product', 2) == '') == good, f'must-fail reads it wrongly for two bends: {what}')
 
 
 def check_definitions(report):

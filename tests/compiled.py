@@ -71,7 +71,8 @@ WIDE = {
 }
 NARROW = {
     '__aeabi_uidiv': 'a quotient of 32 bits', '__aeabi_uidivmod': 'a quotient of 32 bits, and its remainder',
-    '__aeabi_memcpy': 'a copy of memory', '__aeabi_memclr': 'zeros into memory', '__aeabi_memset': 'a byte into memory',
+    '__aeabi_memcpy': 'a copy of memory', '__aeabi_memmove': 'a copy of memory that may lie across itself',
+    '__aeabi_memclr': 'zeros into memory', '__aeabi_memset': 'a byte into memory',
     'read': 'the system\'s', 'write': 'the system\'s', 'rattle_errno': 'the kit\'s, in C',
     '__sysv_signal': 'the system\'s, as it starts', '__x86_get_cpuid_feature_leaf': 'the system\'s, as it starts on x86-64',
     '__write': 'the system\'s, where it cannot start',

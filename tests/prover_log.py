@@ -50,8 +50,8 @@ def refusal_of_edit(log):
     return unread(found) or first_fact(found, SEARCHED in log)
 
 
-def refusal_of_function(log, crate, function):
-    """Why a function is not refused by a fact of its own, or nothing where it is."""
+def refusal_of_function(log, crate, function, bends=1):
+    """Why a function is not refused by a fact of its own, or nothing where it is; where it is bent several times, by as many."""
     verdict = re.search(rf'(?m)^fn {crate}::{re.escape(function)}: (.*)$', log)
     if verdict is None:
         return 'the prover does not name it'
@@ -59,7 +59,14 @@ def refusal_of_function(log, crate, function):
         return 'it is proved'
     found = errors(log)
     own = [error for error in found if error.place.split(':')[0] in proofs_of(function)]
-    return unread(found) or first_fact(own, SEARCHED in verdict.group(1))
+    failed = {error.declaration for error in own} | searched_for(verdict.group(1))
+    few = f'{len(failed)} of its facts fail, and it is bent {bends} times' if len(failed) < bends else ''
+    return unread(found) or first_fact(own, SEARCHED in verdict.group(1)) or few
+
+
+def searched_for(verdict):
+    """The facts that a search did not prove, as the line of a function names them."""
+    return set(re.findall('`([^`]*)`', verdict.partition(SEARCHED)[2].partition(';')[0]))
 
 
 def proofs_of(function):
