@@ -5,30 +5,52 @@ mod request;
 mod shown;
 
 use request::Request;
+use shown::Shown;
 use std::io;
-use std::io::{BufReader, BufWriter, Read, Write};
+use std::io::{Read, Write};
 
-// A line that is no request is answered with an empty one. Each answer goes out at once: a peer may wait for it.
-fn answer<W: Write>(writer: &mut W, request: &mut Request) -> io::Result<()> {
-    match request.answer() {
-        Some(line) => writeln!(writer, "{line}")?,
-        None => writeln!(writer)?,
+// The most that a read brings.
+const CHUNK: usize = 16_384;
+
+// A line that is no request is answered with an empty one. Each answer goes out at once, and as a whole: a peer may wait for it.
+fn answer<W: Write>(writer: &mut W, request: &mut Request, shown: &mut Shown) -> io::Result<()> {
+    if let Some((turn, queue)) = request.turn() {
+        shown.put_turn(turn);
+        shown.put_words(queue);
     }
-    writer.flush()
+    writer.write_all(shown.line())
 }
 
-fn main(rt: HostRuntime) -> io::Result<()> {
-    let alloc = rt.alloc();
-    let reader = BufReader::new(alloc, rt.stdin())?;
-    let mut writer = BufWriter::new(alloc, rt.stdout())?;
-    let mut request = Request::new(alloc);
-    for byte in reader.bytes() {
-        let b = byte?;
-        request.read(b)?;
-        if b == b'\n' {
-            answer(&mut writer, &mut request)?;
-            request = Request::new(alloc);
+// The bytes of a read; a line feed ends a request.
+fn feed<W: Write>(
+    writer: &mut W,
+    chunk: &[u8],
+    request: &mut Request,
+    shown: &mut Shown,
+) -> io::Result<()> {
+    for b in chunk {
+        request.read(*b);
+        if *b == b'\n' {
+            answer(writer, request, shown)?;
+            request.clear();
         }
+    }
+    Ok(())
+}
+
+// That the turns are counted is for the proof alone: no run uses them up.
+fn main(rt: HostRuntime) -> io::Result<()> {
+    let mut reader = rt.stdin();
+    let mut writer = rt.stdout();
+    let mut chunk = [0; CHUNK];
+    let mut request = Request::new();
+    let mut shown = Shown::new();
+    for _ in 0..=u64::MAX {
+        let n = reader.read(&mut chunk)?;
+        if n == 0 {
+            break;
+        }
+        feed(&mut writer, &chunk[..n], &mut request, &mut shown)?;
     }
     Ok(())
 }

@@ -1,57 +1,72 @@
 // A request: the call and its arguments, the record, and the queue's words, in the order of the table in second/README.md.
-ghost use Rattle.std.specs.Prelude.{◌+◌, ◌≤◌};
+ghost use Rattle.std.specs.Prelude.{◌+◌, ◌≤◌, ◌<◌, SomeIff};
+ghost use Rattle.rules.specs.Frames.{digit};
 
-use crate::shown::AnswerLine;
 use rules::{Numbers, Phase, Plan, Sampling, Screening, Silence, Station, Stream, Tally, Turn};
-use std::alloc::{AllocError, Global};
 
 // The words before the queue's.
 const HEAD_WORDS: usize = 45;
 
-const MOST_WORDS: usize = HEAD_WORDS + 12_400;
+pub(crate) const QUEUE_WORDS: usize = 12_400;
 
-// A line as far as it has been read: its words, and the word that a digit has begun.
+const MOST_WORDS: usize = HEAD_WORDS + QUEUE_WORDS;
+
+// A line as far as it has been read: its words, which are the first of a fixed memory, and the word that a digit has begun.
 #[derive(Drop)]
 pub(crate) struct Request {
-    words: Vec<u32>,
+    words: [u32; MOST_WORDS],
+    count: usize,
     begun: Option<u32>,
 }
 
 impl Request {
-    pub(crate) fn new(alloc: Global) -> Request {
+    pub(crate) fn new() -> Request {
         Request {
-            words: Vec::new(alloc),
+            words: [0; MOST_WORDS],
+            count: 0,
             begun: None,
         }
     }
 
+    // The next line begins.
+    pub(crate) fn clear(&mut self) {
+        self.count = 0;
+        self.begun = None;
+    }
+
     // One byte more: a digit goes to the word, which keeps its last eight; any other byte ends it. Words beyond the queue's
     // room are not counted.
-    pub(crate) fn read(&mut self, b: u8) -> Result<(), AllocError> {
+    pub(crate) fn read(&mut self, b: u8) {
         if let Some(d) = digit(b) {
             self.begun = Some(self.begun.unwrap_or(0) << 4 | d);
         } else if let Some(word) = self.begun.take()
-            && self.words.len() < MOST_WORDS
+            && self.count < MOST_WORDS
         {
-            self.words.push(word)?;
+            self.words[self.count] = word;
+            self.count += 1;
         }
-        Ok(())
     }
 
-    // Makes the call; none where the line is no request.
-    pub(crate) fn answer(&mut self) -> Option<AnswerLine<'_>> {
-        let (head, queue) = self.words.split_first_chunk_mut::<HEAD_WORDS>()?;
+    // Makes the call: what it leaves, and the queue's words after it; none where the line is no request.
+    pub(crate) fn turn(&mut self) -> Option<(Turn, &[u32])> {
+        let count = self.count;
+        let words = self.words.get_mut(..count)?;
+        let (head, queue) = words.split_first_chunk_mut::<HEAD_WORDS>()?;
         let turn = made(head, queue)?;
-        Some(AnswerLine { turn, queue })
+        Some((turn, queue))
     }
 }
 
-// The value of a hex digit; a small letter is none.
-fn digit(b: u8) -> Option<u32> {
-    if b.is_ascii_lowercase() {
-        return None;
+// The value of an upper-case hex digit.
+#[tactic(auto, using(std::proofs::lemmas::Bool::Decides::nat_tests), unfolding(rules::specs::Frames::digit))]
+fn digit(b: u8) -> Option<u32>
+    ensures { SomeIff result (digit b < 16) (digit b) }
+{
+    match b {
+        b'0'..=b'9' => Some(u32::from(b - b'0')),
+        b'A'..=b'F' => Some(u32::from(b - b'A') + 10),
+        _ => None,
     }
-    char::from(b).to_digit(16)
 }
 
 // The call by its code. Calls 2 to 8 are made by the library's own functions, which the recorder does not run: it has
