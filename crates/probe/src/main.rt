@@ -12,7 +12,8 @@ use std::io::{Read, Write};
 // The most that a read brings.
 const CHUNK: usize = 16_384;
 
-// A line that is no request is answered with an empty one. Each answer goes out at once, and as a whole: a peer may wait for it.
+// A line that is no request is answered with an empty one. Each answer goes out at once, since a peer may wait for it, and in one write, so
+// that no other's comes between where several probes write to one file.
 fn answer<W: Write>(writer: &mut W, request: &mut Request, shown: &mut Shown) -> io::Result<()> {
     if let Some((turn, queue)) = request.turn() {
         shown.put_turn(turn);

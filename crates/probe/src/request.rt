@@ -7,6 +7,7 @@ use rules::{Numbers, Phase, Plan, Sampling, Screening, Silence, Station, Stream,
 // The words before the queue's.
 const HEAD_WORDS: usize = 45;
 
+// The most of the queue's words: more than any queue has, so that a request can bring too many.
 pub(crate) const QUEUE_WORDS: usize = 12_400;
 
 const MOST_WORDS: usize = HEAD_WORDS + QUEUE_WORDS;

@@ -71,7 +71,7 @@ impl Shown {
         }
     }
 
-    // A word more, or nothing where there is no room.
+    // A word more, where there is room: there is for the longest answer.
     fn put(&mut self, word: u32) {
         if self.len <= MOST_BYTES - 9 {
             let to = self.len + 9;
@@ -109,7 +109,7 @@ impl Shown {
         self.put_record(turn.station);
     }
 
-    // The line, with a line feed in the place of its last space; the next one begins anew.
+    // The line, with a line feed in the place of its last space, or alone; the next one begins anew.
     pub(crate) fn line(&mut self) -> &[u8] {
         let last = self.len.saturating_sub(1);
         self.bytes[last] = b'\n';
